@@ -1,0 +1,3 @@
+-- The laws, one subject a file.
+pub mod Monomial
+pub mod Ideal
