@@ -2,10 +2,12 @@
 --   plus z, minus z   == the two parts of an integer: z is plus z − minus z, and one of them is 0
 --   Congruent B r z   == r and z differ by a multiple of B
 -- In this file:
---   residues of sums, negatives and differences (residue-add, residue-neg, residue-sub), and of equal residues (residue-cong-add, ..)
+--   residues of sums, negatives and differences (residue-add, residue-neg, residue-sub), which depend on residues alone (residue-cong-add,
+--   residue-cong-sub)
 --   a chain of wrapped sums is the wrapped sum (chain), exact where the end fits (chain-exact, chain-exact-signed)
 --   two's complement reads back what it holds (signed-residue, residue-signed, signed-exact)
---   two words: the sum of the low words with its carry (low-word), and the sum of two pairs (pair-add)
+--   two words: the sum of the low words with its carry (low-word), the sum of two pairs (pair-add), and that a pair is below the base's square
+--   and determines its words (pair-lt, pair-low, pair-high, pair-inj)
 --   the machine's signed words are these residues (word-residue, word-signed)
 -- Assumes nothing.
 use mathlib.Core.Path.{_≡_, refl, sym, ap, _∙_}
@@ -100,15 +102,15 @@ module _ (B : ℕ) (above : 0 < B) where
   pub residue-sub : (x y : ℤ) → residue B (x -ℤ y) ≡ (residue B x + (B - residue B y)) % B
   residue-sub x y = rw (residue-add x (negℤ y), residue-neg y, add-mod-mod)
 
-  -- equal residues have equal sums
+  -- integers with equal residues have sums with equal residues
   pub residue-cong-add : (x x′ y y′ : ℤ) → residue B x ≡ residue B x′ → residue B y ≡ residue B y′ → residue B (x +ℤ y) ≡ residue B (x′ +ℤ y′)
   residue-cong-add x x′ y y′ d e = cc (residue-add x y, residue-add x′ y′)
 
-  -- and equal differences
+  -- and differences with equal residues
   pub residue-cong-sub : (x x′ y y′ : ℤ) → residue B x ≡ residue B x′ → residue B y ≡ residue B y′ → residue B (x -ℤ y) ≡ residue B (x′ -ℤ y′)
   residue-cong-sub x x′ y y′ d e = cc (residue-sub x y, residue-sub x′ y′)
 
-  -- one wrapped sum
+  -- one wrapped sum keeps the residue of the sum
   wrapped-sum : (a : ℕ) (z : ℤ) → residue B (pos ((a + residue B z) % B)) ≡ residue B (pos a +ℤ z)
   wrapped-sum a z = rw (mod-mod, residue-add (pos a) z, mod-add-mod)
 
@@ -125,7 +127,7 @@ module _ (B : ℕ) (above : 0 < B) where
   pub chain-exact : (a n : ℕ) (zs : List ℤ) → a < B → n < B → pos a +ℤ total zs ≡ pos n → wrapped B a zs ≡ n
   chain-exact a n zs h k e = chain a zs h ∙ ap (residue B) e ∙ residue-small B n k
 
--- an integer that two's complement writes is the one that it reads
+-- the integer that two's complement reads from r has the residue r
 pub residue-signed : (B r : ℕ) → r < B → residue B (signedOf B r) ≡ r
 residue-signed B r h = go (ltb r (B / 2)) refl
   where
@@ -202,14 +204,14 @@ module _ (B : ℕ) where
       rw (sum, pair-mod s (b + d + carry a s) (mod-lt (a + c) (omega arith)))
 
 module _ (w : Width) where
-  -- a signed word's bits are the residue
+  -- the machine's bits of a signed word are the residue
   pub word-residue : (z : ℤ) → SFits w z → ofZ w z ≡ residue (2 ^ bits w) z
   word-residue (pos n) f = sym (mod-eq-of-lt (omega (arith, f .sfits, pow-bits w)))
   word-residue (negsuc n) f =
       let s : n % 2 ^ bits w ≡ n = mod-eq-of-lt (omega (arith, f .sfits, pow-bits w)) in
       rw s
 
-  -- a word read as signed is the two's complement
+  -- the machine's signed reading of a word is the two's complement
   pub word-signed : (r : ℕ) → toZ w r ≡ signedOf (2 ^ bits w) r
   word-signed r =
       let half : 2 ^ bits w / 2 ≡ 2 ^ hbits w = omega (arith, pow-bits w) in
