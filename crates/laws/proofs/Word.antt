@@ -1,0 +1,218 @@
+-- Words: sums modulo a base B, each law for every base.
+--   plus z, minus z   == the two parts of an integer: z is plus z − minus z, and one of them is 0
+--   Congruent B r z   == r and z differ by a multiple of B
+-- In this file:
+--   residues of sums, negatives and differences (residue-add, residue-neg, residue-sub), which depend on residues alone (residue-cong-add,
+--   residue-cong-sub)
+--   a chain of wrapped sums is the wrapped sum (chain), exact where the end fits (chain-exact, chain-exact-signed)
+--   two's complement reads back what it holds (signed-residue, residue-signed, signed-exact)
+--   two words: the sum of the low words with its carry (low-word), the sum of two pairs (pair-add), and that a pair is below the base's square
+--   and determines its words (pair-lt, pair-low, pair-high, pair-inj)
+--   the machine's signed words are these residues (word-residue, word-signed)
+-- Assumes nothing.
+use mathlib.Core.Path.{_≡_, refl, sym, ap, _∙_}
+use mathlib.Core.Bool.{Bool, true, false}
+use mathlib.Core.List.{List, [], _∷_}
+use Prim.Native.Nat.{ℕ, zero, suc, _+_, _*_, _-_, _%_, _/_, _^_, _≤_, _<_}
+use native.Mathlib.Nat.{mod-lt, mod-eq-of-lt, mod-mod, mod-add-mod, add-mod-mod, mod-add-div, add-mul-mod-self-left, add-mul-div-left, mod-eq-sub-mod, div-eq-of-lt, mul-le-mul-left}
+use native.Mathlib.Omega.{arith}
+use lib.Arith.{mod-mul}
+use lib.Dec.{ltb}
+use lib.IntN.{ℤ, pos, negsuc, negℤ, subℕ, _+ℤ_, _-ℤ_, +ℤ-assoc}
+use lib.Signed.{mag}
+use borrow.Author.Tests.{ltb-true, ltb-false, lt-ltb, le-ltb}
+use mir.Syntax.{Width}
+use mir.Val.{bits, hbits, SFits, ofZ, toZ}
+use mir.ValLaws.{pow-bits}
+use Rattle.laws.specs.Numerator.{total}
+use Rattle.laws.specs.Word.{residue, signedOf, wrapped, pair, carry}
+
+abbrev plus : ℤ → ℕ
+plus (pos n) = n
+plus (negsuc n) = 0
+
+abbrev minus : ℤ → ℕ
+minus (pos n) = 0
+minus (negsuc n) = suc n
+
+-- the parts of a difference of natural numbers
+difference-parts : (a b : ℕ) → plus (subℕ a b) + b ≡ a + minus (subℕ a b)
+difference-parts a b = go (ltb a b) refl
+  where
+    go : (t : Bool) → ltb a b ≡ t → plus (subℕ a b) + b ≡ a + minus (subℕ a b)
+    go true e = rw e (omega (arith, ltb-true a b e))
+    go false e = rw e (omega (arith, ltb-false a b e))
+
+-- the parts of a sum
+sum-parts : (x y : ℤ) → plus (x +ℤ y) + (minus x + minus y) ≡ plus x + plus y + minus (x +ℤ y)
+sum-parts (pos a) (pos b) = omega arith
+sum-parts (pos a) (negsuc b) = omega (arith, difference-parts a (suc b))
+sum-parts (negsuc a) (pos b) = omega (arith, difference-parts b (suc a))
+sum-parts (negsuc a) (negsuc b) = omega arith
+
+-- the parts of a negative
+negative-parts : (x : ℤ) → plus (negℤ x) + plus x ≡ minus x + minus (negℤ x)
+negative-parts (pos zero) = refl
+negative-parts (pos (suc n)) = omega arith
+negative-parts (negsuc n) = omega arith
+
+abbrev Congruent : ℕ → ℕ → ℤ → Type 0
+Congruent B r z = (k : ℕ) × (l : ℕ) × (r + minus z + B * k ≡ plus z + B * l)
+
+-- a number below B is its own residue
+pub residue-small : (B n : ℕ) → n < B → residue B (pos n) ≡ n
+residue-small B n h = mod-eq-of-lt h
+
+module _ (B : ℕ) (above : 0 < B) where
+  -- a residue is below the base
+  pub residue-lt : (z : ℤ) → residue B z < B
+  residue-lt (pos n) = mod-lt n above
+  residue-lt (negsuc n) = omega (arith, mod-lt n above)
+
+  -- a residue is congruent to its integer
+  residue-congruent : (z : ℤ) → Congruent B (residue B z) z
+  residue-congruent (pos n) = (n / B, 0, omega (arith, mod-add-div n B))
+  residue-congruent (negsuc n) = (0, suc (n / B), omega (arith, mod-add-div n B, mod-lt n above))
+
+  -- what is below the base and congruent is the residue
+  congruent-residue : (z : ℤ) (r : ℕ) → r < B → Congruent B r z → residue B z ≡ r
+  congruent-residue z r h (k, l, e) =
+      let (p, q, d) = residue-congruent z in
+      let same : residue B z + B * (p + l) ≡ r + B * (k + q) = omega arith in
+      sym (mod-eq-of-lt (residue-lt z)) ∙ sym (add-mul-mod-self-left (residue B z) B (p + l))
+      ∙ ap (λ (n : ℕ). n % B) same
+      ∙ add-mul-mod-self-left r B (k + q) ∙ mod-eq-of-lt h
+
+  -- the residue of a sum
+  pub residue-add : (x y : ℤ) → residue B (x +ℤ y) ≡ (residue B x + residue B y) % B
+  residue-add x y =
+      let (k, l, d) = residue-congruent x in
+      let (p, q, e) = residue-congruent y in
+      let s : ℕ = residue B x + residue B y in
+      congruent-residue (x +ℤ y) (s % B) (mod-lt s above) (s / B + (k + p), l + q, omega (arith, mod-add-div s B, sum-parts x y))
+
+  -- the residue of a negative
+  pub residue-neg : (x : ℤ) → residue B (negℤ x) ≡ (B - residue B x) % B
+  residue-neg x =
+      let (k, l, d) = residue-congruent x in
+      let s : ℕ = B - residue B x in
+      congruent-residue (negℤ x) (s % B) (mod-lt s above) (s / B + l, suc k, omega (arith, mod-add-div s B, negative-parts x, residue-lt x))
+
+  -- the residue of a difference
+  pub residue-sub : (x y : ℤ) → residue B (x -ℤ y) ≡ (residue B x + (B - residue B y)) % B
+  residue-sub x y = rw (residue-add x (negℤ y), residue-neg y, add-mod-mod)
+
+  -- integers with equal residues have sums with equal residues
+  pub residue-cong-add : (x x′ y y′ : ℤ) → residue B x ≡ residue B x′ → residue B y ≡ residue B y′ → residue B (x +ℤ y) ≡ residue B (x′ +ℤ y′)
+  residue-cong-add x x′ y y′ d e = cc (residue-add x y, residue-add x′ y′)
+
+  -- and differences with equal residues
+  pub residue-cong-sub : (x x′ y y′ : ℤ) → residue B x ≡ residue B x′ → residue B y ≡ residue B y′ → residue B (x -ℤ y) ≡ residue B (x′ -ℤ y′)
+  residue-cong-sub x x′ y y′ d e = cc (residue-sub x y, residue-sub x′ y′)
+
+  -- one wrapped sum keeps the residue of the sum
+  wrapped-sum : (a : ℕ) (z : ℤ) → residue B (pos ((a + residue B z) % B)) ≡ residue B (pos a +ℤ z)
+  wrapped-sum a z = rw (mod-mod, residue-add (pos a) z, mod-add-mod)
+
+  -- a chain of wrapped sums is the wrapped sum
+  pub chain : (a : ℕ) (zs : List ℤ) → a < B → wrapped B a zs ≡ residue B (pos a +ℤ total zs)
+  chain a [] h = omega (arith, residue-small B (a + 0) (omega arith))
+  chain a (z ∷ zs) h =
+      let s : ℕ = (a + residue B z) % B in
+      chain s zs (mod-lt (a + residue B z) above)
+      ∙ residue-cong-add (pos s) (pos a +ℤ z) (total zs) (total zs) (wrapped-sum a z) refl
+      ∙ ap (residue B) (+ℤ-assoc (pos a) z (total zs))
+
+  -- a chain whose end is a natural number below the base is exact
+  pub chain-exact : (a n : ℕ) (zs : List ℤ) → a < B → n < B → pos a +ℤ total zs ≡ pos n → wrapped B a zs ≡ n
+  chain-exact a n zs h k e = chain a zs h ∙ ap (residue B) e ∙ residue-small B n k
+
+-- the integer that two's complement reads from r has the residue r
+pub residue-signed : (B r : ℕ) → r < B → residue B (signedOf B r) ≡ r
+residue-signed B r h = go (ltb r (B / 2)) refl
+  where
+    go : (t : Bool) → ltb r (B / 2) ≡ t → residue B (signedOf B r) ≡ r
+    go true e = rw e (mod-eq-of-lt h)
+    go false e =
+        let s : (B - suc r) % B ≡ B - suc r = mod-eq-of-lt (omega arith) in
+        rw (e, s) (omega arith)
+
+module _ (B H : ℕ) (even : B ≡ H + H) where
+  -- an integer from −H to H − 1 is read back from its residue
+  pub signed-residue : (z : ℤ) → mag z < H → signedOf B (residue B z) ≡ z
+  signed-residue (pos n) h =
+      let s : n % B ≡ n = mod-eq-of-lt (omega arith) in
+      let t : ltb n (B / 2) ≡ true = lt-ltb n (B / 2) (omega arith) in
+      rw (s, t)
+  signed-residue (negsuc n) h =
+      let s : n % B ≡ n = mod-eq-of-lt (omega arith) in
+      let t : ltb (B - suc n) (B / 2) ≡ false = le-ltb (B - suc n) (B / 2) (omega arith) in
+      let u : B - suc (B - suc n) ≡ n = omega arith in
+      rw (s, t, u)
+
+  -- two such integers with equal residues are equal
+  pub signed-exact : (x y : ℤ) → mag x < H → mag y < H → residue B x ≡ residue B y → x ≡ y
+  signed-exact x y h k e = cc (signed-residue x h, signed-residue y k)
+
+  -- a chain whose end is such an integer is exact
+  pub chain-exact-signed : (a : ℕ) (z : ℤ) (zs : List ℤ) → a < B → mag z < H → pos a +ℤ total zs ≡ z → signedOf B (wrapped B a zs) ≡ z
+  chain-exact-signed a z zs h k e = rw (chain B (omega arith) a zs h, e) (signed-residue z k)
+
+-- the sum of the low words and its carry
+pub low-word : (B a c : ℕ) → a < B → c < B → (a + c) % B + B * carry a ((a + c) % B) ≡ a + c
+low-word B a c h k = go (ltb (a + c) B) refl
+  where
+    go : (t : Bool) → ltb (a + c) B ≡ t → (a + c) % B + B * carry a ((a + c) % B) ≡ a + c
+    go true e =
+        let s : (a + c) % B ≡ a + c = mod-eq-of-lt (ltb-true (a + c) B e) in
+        let t : ltb (a + c) a ≡ false = le-ltb (a + c) a (omega arith) in
+        rw (s, t) (omega arith)
+    go false e =
+        let g : B ≤ a + c = ltb-false (a + c) B e in
+        let s : (a + c) % B ≡ a + c - B = mod-eq-sub-mod g ∙ mod-eq-of-lt (omega arith) in
+        let t : ltb (a + c - B) a ≡ true = lt-ltb (a + c - B) a (omega arith) in
+        rw (s, t) (omega arith)
+
+module _ (B : ℕ) where
+  -- a pair of words is below the base's square
+  pub pair-lt : (a b : ℕ) → a < B → b < B → pair B a b < B * B
+  pair-lt a b h k = omega (arith, mul-le-mul-left B k)
+
+  -- the low word of a pair
+  pub pair-low : (a b : ℕ) → a < B → pair B a b % B ≡ a
+  pair-low a b h = add-mul-mod-self-left a B b ∙ mod-eq-of-lt h
+
+  -- the high word of a pair
+  pub pair-high : (a b : ℕ) → a < B → pair B a b / B ≡ b
+  pair-high a b h = rw (add-mul-div-left a b {y = B} (omega arith), div-eq-of-lt h) (omega arith)
+
+  -- equal pairs have equal words
+  pub pair-inj : (a b c d : ℕ) → a < B → c < B → pair B a b ≡ pair B c d → (a ≡ c) × (b ≡ d)
+  pair-inj a b c d h k e =
+      (cc (pair-low a b h, pair-low c d k, ap (λ (n : ℕ). n % B) e), cc (pair-high a b h, pair-high c d k, ap (λ (n : ℕ). n / B) e))
+
+  -- a pair modulo the base's square: the high word modulo the base
+  pair-mod : (a b : ℕ) → a < B → pair B a b % (B * B) ≡ pair B a (b % B)
+  pair-mod a b h =
+      rw (mod-mul (pair B a b) {m = B} {c = B} (omega arith) (omega arith), pair-low a b h, pair-high a b h) (omega arith)
+
+  -- the sum of two pairs: the low words' sum, and the high words' sum with the carry
+  pub pair-add : (a b c d : ℕ) → a < B → c < B → pair B ((a + c) % B) ((b + d + carry a ((a + c) % B)) % B) ≡ (pair B a b + pair B c d) % (B * B)
+  pair-add a b c d h k =
+      let s : ℕ = (a + c) % B in
+      let sum : pair B a b + pair B c d ≡ pair B s (b + d + carry a s) = omega (arith, low-word B a c h k) in
+      rw (sum, pair-mod s (b + d + carry a s) (mod-lt (a + c) (omega arith)))
+
+module _ (w : Width) where
+  -- the machine's bits of a signed word are the residue
+  pub word-residue : (z : ℤ) → SFits w z → ofZ w z ≡ residue (2 ^ bits w) z
+  word-residue (pos n) f = sym (mod-eq-of-lt (omega (arith, f .sfits, pow-bits w)))
+  word-residue (negsuc n) f =
+      let s : n % 2 ^ bits w ≡ n = mod-eq-of-lt (omega (arith, f .sfits, pow-bits w)) in
+      rw s
+
+  -- the machine's signed reading of a word is the two's complement
+  pub word-signed : (r : ℕ) → toZ w r ≡ signedOf (2 ^ bits w) r
+  word-signed r =
+      let half : 2 ^ bits w / 2 ≡ 2 ^ hbits w = omega (arith, pow-bits w) in
+      rw half
