@@ -1,11 +1,10 @@
 -- Laws of the two orders of monomials. They hold for lists of any widths, not only of equal ones.
---   opposite-twice                   the opposite of the opposite
 --   orElse-eq, orElse-opposite       o or else p says equal exactly when both do; its opposite
 --   compare-says, says-compare       compare x y is less, equal or greater exactly when x < y, x = y, x > y
 --   Total                            a strict total order: equal exactly when the same, the opposite when turned round, transitive
 --   total-opposite                   such an order turned round is one
 --   total-self                       each is equal to itself
---   total-turn, total-turn-back      a is greater than b exactly when b is less than a
+--   total-turn                       a is greater than b exactly when b is less than a
 --   total-greater                    greater is transitive too
 --   total-differ, total-not-both     the greater of two is not the other, and only one of two is the greater
 --   compare-total                    the order of numbers is a strict total order
@@ -32,11 +31,6 @@ abbrev pub opposite : Ordering → Ordering
 opposite Ordering·lt = Ordering·gt
 opposite Ordering·eq = Ordering·eq
 opposite Ordering·gt = Ordering·lt
-
-pub opposite-twice : (o : Ordering) → opposite (opposite o) ≡ o
-opposite-twice Ordering·lt = refl
-opposite-twice Ordering·eq = refl
-opposite-twice Ordering·gt = refl
 
 pub orElse-eq : (o p : Ordering) → (orElse o p ≡ Ordering·eq) ↔ ((o ≡ Ordering·eq) × (p ≡ Ordering·eq))
 orElse-eq Ordering·lt p = (λ h. (h, cc), λ h. h .0)
@@ -147,15 +141,11 @@ module _ {X : Type 0} (cmp : X → X → Ordering) (t : Total cmp) where
   pub total-self : (a : X) → cmp a a ≡ Ordering·eq
   total-self a = t .same a a .1 refl
 
-  -- a is the greater exactly where b is the smaller
-  pub total-turn : (a b : X) → cmp a b ≡ Ordering·gt → cmp b a ≡ Ordering·lt
-  total-turn a b h = t .flip a b ∙ ap opposite h
-
-  pub total-turn-back : (a b : X) → cmp b a ≡ Ordering·lt → cmp a b ≡ Ordering·gt
-  total-turn-back a b h = t .flip b a ∙ ap opposite h
+  pub total-turn : (a b : X) → (cmp a b ≡ Ordering·gt) ↔ (cmp b a ≡ Ordering·lt)
+  total-turn a b = (λ h. t .flip a b ∙ ap opposite h, λ h. t .flip b a ∙ ap opposite h)
 
   pub total-greater : (a b c : X) → cmp a b ≡ Ordering·gt → cmp b c ≡ Ordering·gt → cmp a c ≡ Ordering·gt
-  total-greater a b c h g = total-turn-back a c (t .trans c b a (total-turn b c g) (total-turn a b h))
+  total-greater a b c h g = total-turn a c .1 (t .trans c b a (total-turn b c .0 g) (total-turn a b .0 h))
 
   pub total-differ : (a b : X) → cmp a b ≡ Ordering·gt → a ≡ b → ⊥
   total-differ a b h e = let z : Ordering·eq ≡ Ordering·gt = sym (t .same a b .1 e) ∙ h in eq-not-gt z
