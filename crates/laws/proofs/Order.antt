@@ -16,9 +16,9 @@ use mathlib.Core.Path.{_≡_, refl, sym, ap, ap₂, _∙_}
 use mathlib.Core.Logic.{_↔_}
 use mathlib.Core.Bool.{Bool, true, false}
 use mathlib.Core.List.{List, [], _∷_}
-use Prim.Native.Nat.{ℕ, zero, suc, _≤_, _<_, compare, Ordering, Ordering·lt, Ordering·eq, Ordering·gt}
+use Prim.Native.Nat.{ℕ, _≤_, _<_, compare, Ordering, Ordering·lt, Ordering·eq, Ordering·gt}
 use native.Mathlib.Omega.{arith}
-use lib.Dec.{leb, eqb, isLe, isEq}
+use lib.Dec.{leb, isLe, isEq}
 use borrow.Author.Tests.{leb-true, leb-false, eqb-true, eqb-false}
 use Rattle.laws.specs.Monomial.{degree}
 use Rattle.laws.specs.Order.{orElse, lex, revlex, degrevlex}
@@ -32,11 +32,13 @@ opposite Ordering·lt = Ordering·gt
 opposite Ordering·eq = Ordering·eq
 opposite Ordering·gt = Ordering·lt
 
+-- equal only if both say equal
 pub orElse-eq : (o p : Ordering) → (orElse o p ≡ Ordering·eq) ↔ ((o ≡ Ordering·eq) × (p ≡ Ordering·eq))
 orElse-eq Ordering·lt p = (λ h. (h, cc), λ h. h .0)
 orElse-eq Ordering·eq p = (λ h. (refl, h), λ h. h .1)
 orElse-eq Ordering·gt p = (λ h. (h, cc), λ h. h .0)
 
+-- turned round part by part
 pub orElse-opposite : (o p : Ordering) → orElse (opposite o) (opposite p) ≡ opposite (orElse o p)
 orElse-opposite Ordering·lt p = refl
 orElse-opposite Ordering·eq p = refl
@@ -65,7 +67,7 @@ joined-orElse {o} {p} {r} {o′} {p′} {r′} j k =
     record {
       less = less o p j;
       left = λ h. ap₂ orElse (j .left (orElse-eq o o′ .0 h .0)) (k .left (orElse-eq o o′ .0 h .1));
-      right = λ h. ap₂ orElse (j .right (orElse-eq p p′ .0 h .0)) (k .right (orElse-eq p p′ .0 h .1))
+      right = λ h. ap₂ orElse (j .right (orElse-eq p p′ .0 h .0)) (k .right (orElse-eq p p′ .0 h .1));
     }
   where
     less : (s t : Ordering) → Joined s t r → orElse s o′ ≡ Ordering·lt → orElse t p′ ≡ Ordering·lt → orElse r r′ ≡ Ordering·lt
@@ -85,11 +87,13 @@ Says Ordering·lt x y = x < y
 Says Ordering·eq x y = x ≡ y
 Says Ordering·gt x y = y < x
 
+-- what the answer of `compare` tells of the numbers
 pub compare-says : (o : Ordering) (x y : ℕ) → compare x y ≡ o → Says o x y
 compare-says Ordering·lt x y h = omega (arith, leb-true x y (ap isLe h), eqb-false x y (ap isEq h))
 compare-says Ordering·eq x y h = eqb-true x y (ap isEq h)
 compare-says Ordering·gt x y h = leb-false x y (ap isLe h)
 
+-- and it answers what holds
 pub says-compare : (o : Ordering) (x y : ℕ) → Says o x y → compare x y ≡ o
 says-compare o x y h = go o (compare x y) h (compare-says (compare x y) x y refl)
   where
@@ -120,12 +124,13 @@ pub record Total {X : Type 0} (cmp : X → X → Ordering) : Type 0 where
   pub flip : (a b : X) → cmp b a ≡ opposite (cmp a b)
   pub trans : (a b c : X) → cmp a b ≡ Ordering·lt → cmp b c ≡ Ordering·lt → cmp a c ≡ Ordering·lt
 
+-- numbers
 pub compare-total : Total compare
 compare-total =
     record {
       same = λ x y. (compare-says Ordering·eq x y, says-compare Ordering·eq x y);
       flip = compare-flip;
-      trans = λ x y z h g. says-compare Ordering·lt x z (omega (arith, compare-says Ordering·lt x y h, compare-says Ordering·lt y z g))
+      trans = λ x y z h g. says-compare Ordering·lt x z (omega (arith, compare-says Ordering·lt x y h, compare-says Ordering·lt y z g));
     }
 
 -- the order turned round
@@ -134,22 +139,27 @@ total-opposite t =
     record {
       same = λ a b. (λ h. sym (t .same b a .0 h), λ e. t .same b a .1 (sym e));
       flip = λ a b. t .flip b a;
-      trans = λ a b c h g. t .trans c b a g h
+      trans = λ a b c h g. t .trans c b a g h;
     }
 
 module _ {X : Type 0} (cmp : X → X → Ordering) (t : Total cmp) where
+  -- nothing differs from itself
   pub total-self : (a : X) → cmp a a ≡ Ordering·eq
   total-self a = t .same a a .1 refl
 
+  -- a is the greater exactly when b is the smaller
   pub total-turn : (a b : X) → (cmp a b ≡ Ordering·gt) ↔ (cmp b a ≡ Ordering·lt)
   total-turn a b = (λ h. t .flip a b ∙ ap opposite h, λ h. t .flip b a ∙ ap opposite h)
 
+  -- greater than the greater is greater
   pub total-greater : (a b c : X) → cmp a b ≡ Ordering·gt → cmp b c ≡ Ordering·gt → cmp a c ≡ Ordering·gt
   total-greater a b c h g = total-turn a c .1 (t .trans c b a (total-turn b c .0 g) (total-turn a b .0 h))
 
+  -- the greater is another one
   pub total-differ : (a b : X) → cmp a b ≡ Ordering·gt → a ≡ b → ⊥
   total-differ a b h e = let z : Ordering·eq ≡ Ordering·gt = sym (t .same a b .1 e) ∙ h in eq-not-gt z
 
+  -- two are not each greater than the other
   pub total-not-both : (a b : X) → cmp a b ≡ Ordering·gt → cmp b a ≡ Ordering·gt → ⊥
   total-not-both a b h g = total-differ a a (total-greater a b a h g) refl
 
@@ -210,14 +220,16 @@ last-decides =
     record {
       both = λ o p. (λ h. (orElse-eq p o .0 h .1, orElse-eq p o .0 h .0), λ h. orElse-eq p o .1 (h .1, h .0));
       turned = λ o p. orElse-opposite p o;
-      joined = λ j k. joined-orElse k j
+      joined = λ j k. joined-orElse k j;
     }
 
+-- Lex
 pub lex-total : Total lex
 lex-total =
     walk-total compare orElse lex compare-total first-decides
     (record { none = refl; shorter = λ y b. refl; longer = λ x a. refl; next = λ x y a b. refl })
 
+-- what DegRevLex asks at equal degree
 pub revlex-total : Total revlex
 revlex-total =
     walk-total (λ x y. compare y x) (λ o p. orElse p o) revlex (total-opposite compare-total) last-decides
@@ -225,20 +237,23 @@ revlex-total =
 
 -- DegRevLex
 
+-- DegRevLex
 pub degrevlex-total : Total degrevlex
 degrevlex-total =
     record {
       same = λ a b. (λ h. revlex-total .same a b .0 (orElse-eq (compare (degree a) (degree b)) (revlex a b) .0 h .1), λ e. rw e (self b));
       flip = λ a b. ap₂ orElse (compare-flip (degree a) (degree b)) (revlex-total .flip a b) ∙ orElse-opposite (compare (degree a) (degree b)) (revlex a b);
-      trans = λ a b c. joined-orElse (total-joined compare compare-total (degree a) (degree b) (degree c)) (total-joined revlex revlex-total a b c) .less
+      trans = λ a b c. joined-orElse (total-joined compare compare-total (degree a) (degree b) (degree c)) (total-joined revlex revlex-total a b c) .less;
     }
   where
     self : (a : List ℕ) → degrevlex a a ≡ Ordering·eq
     self a = ap₂ orElse (total-self compare compare-total (degree a)) (total-self revlex revlex-total a)
 
+-- the degree decides first
 pub degrevlex-degree : (a b : List ℕ) → degree a < degree b → degrevlex a b ≡ Ordering·lt
 degrevlex-degree a b h = rw (says-compare Ordering·lt (degree a) (degree b) h)
 
+-- so the greater one has no smaller degree
 pub degrevlex-greater-degree : (a b : List ℕ) → degrevlex a b ≡ Ordering·gt → degree b ≤ degree a
 degrevlex-greater-degree a b h = go (leb (degree b) (degree a)) refl
   where
