@@ -1,5 +1,4 @@
 -- Laws of minimal lists.
---   inside-length        a list whose members stand once each, and in another list, is no longer than that
 --   minimal-in           a minimal list's members are in every list with the same multiples
 --   inside-same          lists with the same members have the same multiples
 --   same-minimal         two minimal lists have the same multiples exactly when they have the same members
@@ -39,6 +38,7 @@ use Rattle.laws.specs.Order.{degrevlex}
 use Rattle.laws.specs.Minimal.{proper, minimalIn, place, insert, falling, minimal, Minimal, Falling}
 use Rattle.laws.proofs.Monomial.{and-left, and-right, head-le, not-true, divides-trans, divides-antisym, divides-degree, unit-divides}
 use Rattle.laws.proofs.Ideal.{in-at, Divisor, divisor-multiple, multiple-divisor, member-multiple, multiple-up, same-refl, same-sym, same-trans, same-covered}
+use Rattle.laws.proofs.Pigeonhole.{Distinct, pigeonhole}
 use Rattle.laws.proofs.Order.{degrevlex-total, total-turn, total-greater, total-differ, total-not-both, degrevlex-greater-degree}
 
 -- members
@@ -46,39 +46,6 @@ use Rattle.laws.proofs.Order.{degrevlex-total, total-turn, total-greate
 -- each member of L is one of K
 abbrev pub Inside : List (List ℕ) → List (List ℕ) → Type 0
 Inside L K = (a : List ℕ) → In a L → In a K
-
--- no member stands twice
-abbrev pub Distinct : List (List ℕ) → Type 0
-Distinct [] = Unit {0}
-Distinct (a ∷ L) = (In a L → ⊥) × Distinct L
-
--- K without one member
-without : (a : List ℕ) (K : List (List ℕ)) → In a K → List (List ℕ)
-without a [] i = absurd i
-without a (b ∷ K) (inl e) = K
-without a (b ∷ K) (inr i) = b ∷ without a K i
-
-length-without : (a : List ℕ) (K : List (List ℕ)) (i : In a K) → length K ≡ suc (length (without a K i))
-unfolding without
-length-without a [] i = absurd i
-length-without a (b ∷ K) (inl e) = refl
-length-without a (b ∷ K) (inr i) = ap suc (length-without a K i)
-
-in-without : (a : List ℕ) (K : List (List ℕ)) (i : In a K) (c : List ℕ) → In c K → c ≢ a → In c (without a K i)
-unfolding without
-in-without a [] i c j h = absurd i
-in-without a (b ∷ K) (inl e) c (inl p) h = absurd (h (p ∙ sym e))
-in-without a (b ∷ K) (inl e) c (inr j) h = j
-in-without a (b ∷ K) (inr i) c (inl p) h = inl p
-in-without a (b ∷ K) (inr i) c (inr j) h = inr (in-without a K i c j h)
-
--- members that stand once each, all in K, are no more than K has
-pub inside-length : (L K : List (List ℕ)) → Distinct L → Inside L K → length L ≤ length K
-inside-length [] K d f = omega arith
-inside-length (a ∷ L) K d f =
-    let i : In a K = f a (inl refl) in
-    let r : Inside L (without a K i) = λ c j. in-without a K i c (f c (inr j)) (λ e. d .0 (in-at L (sym e) j)) in
-    omega (arith, length-without a K i, inside-length L (without a K i) (d .1) r)
 
 -- minimal lists
 
@@ -102,7 +69,7 @@ same-minimal n L K m w =
 
 -- a minimal list is the shortest with its multiples
 pub shortest : (n : ℕ) (L K : List (List ℕ)) → Minimal n L → Distinct L → Width n K → Same n L K → length L ≤ length K
-shortest n L K m d w s = inside-length L K d (minimal-in n L K m w s)
+shortest n L K m d w s = pigeonhole L K d (minimal-in n L K m w s)
 
 -- lists that fall
 
