@@ -8,9 +8,11 @@
 --   two's complement reads back what it holds (signed-residue, residue-signed, signed-exact)
 --   two words: the sum of the low words with its carry (low-word), the sum of two pairs (pair-add), and that a pair is below the base's square
 --   and determines its words (pair-lt, pair-low, pair-high, pair-inj)
---   the machine's signed words are these residues (word-residue, word-signed)
+--   a signed word keeps the residue (wrap-residue), and the integer itself where it fits (wrap-exact)
+--   the machine's signed words are these residues (word-residue, word-signed), and its wrapping sum and difference those of the integers (wrap-add,
+--   wrap-sub, wrap-fits)
 -- Assumes nothing.
-use mathlib.Core.Path.{_≡_, refl, sym, ap, _∙_}
+use mathlib.Core.Path.{_≡_, refl, sym, ap, ap₂, _∙_}
 use mathlib.Core.Bool.{Bool, true, false}
 use mathlib.Core.List.{List, [], _∷_}
 use Prim.Native.Nat.{ℕ, zero, suc, _+_, _*_, _-_, _%_, _/_, _^_, _≤_, _<_}
@@ -18,14 +20,15 @@ use native.Mathlib.Nat.{mod-lt, mod-eq-of-lt, mod-mod, mod-add-mod, add-mod-mod,
 use native.Mathlib.Omega.{arith}
 use lib.Arith.{mod-mul}
 use lib.Dec.{ltb}
-use lib.IntN.{ℤ, pos, negsuc, negℤ, subℕ, _+ℤ_, _-ℤ_, +ℤ-assoc}
+use lib.IntN.{ℤ, pos, negsuc, negℤ, subℕ, _+ℤ_, _-ℤ_, +ℤ-assoc, +ℤ-negℤ-cancel}
 use lib.Signed.{mag}
 use borrow.Author.Tests.{ltb-true, ltb-false, lt-ltb, le-ltb}
 use mir.Syntax.{Width}
 use mir.Val.{bits, hbits, SFits, ofZ, toZ}
-use mir.ValLaws.{pow-bits}
+use lib.Pow.{pow-pos}
+use mir.ValLaws.{pow-bits, toZ-fits}
 use Rattle.laws.specs.Numerator.{total}
-use Rattle.laws.specs.Word.{residue, signedOf, wrapped, pair, carry}
+use Rattle.laws.specs.Word.{residue, signedOf, wrap, wrapped, pair, carry}
 
 abbrev plus : ℤ → ℕ
 plus (pos n) = n
@@ -216,3 +219,43 @@ module _ (w : Width) where
   word-signed r =
       let half : 2 ^ bits w / 2 ≡ 2 ^ hbits w = omega (arith, pow-bits w) in
       rw half
+
+  -- what a signed word keeps fits it
+  pub wrap-fits : (z : ℤ) → SFits w (wrap (2 ^ bits w) z)
+  unfolding wrap
+  wrap-fits z =
+      rw (← word-signed (residue (2 ^ bits w) z)) (toZ-fits w (residue (2 ^ bits w) z) (record { fits = residue-lt (2 ^ bits w) (pow-pos (bits w)) z }))
+
+  -- an integer that fits is kept
+  pub wrap-exact : (z : ℤ) → SFits w z → wrap (2 ^ bits w) z ≡ z
+  unfolding wrap
+  wrap-exact z f = signed-residue (2 ^ bits w) (2 ^ hbits w) (omega (arith, pow-bits w)) z (f .sfits)
+
+  -- the machine's wrapping sum is what a word keeps of the sum
+  pub wrap-add : (a b : ℤ) → SFits w a → SFits w b → wrap (2 ^ bits w) (a +ℤ b) ≡ toZ w ((ofZ w a + ofZ w b) % 2 ^ bits w)
+  unfolding wrap
+  wrap-add a b f g =
+      ap (signedOf (2 ^ bits w)) (residue-add (2 ^ bits w) (pow-pos (bits w)) a b ∙ sym (ap₂ (λ (x y : ℕ). (x + y) % 2 ^ bits w) (word-residue a f) (word-residue b g)))
+      ∙ sym (word-signed ((ofZ w a + ofZ w b) % 2 ^ bits w))
+
+  -- and its wrapping difference r, of which r + b is a, what it keeps of the difference
+  pub wrap-sub : (a b : ℤ) (r : ℕ) → SFits w a → SFits w b → r < 2 ^ bits w → (r + ofZ w b) % 2 ^ bits w ≡ ofZ w a → wrap (2 ^ bits w) (a -ℤ b) ≡ toZ w r
+  unfolding wrap
+  wrap-sub a b r f g h e =
+      ap (signedOf (2 ^ bits w))
+      (residue-cong-sub (2 ^ bits w) (pow-pos (bits w)) a (pos r +ℤ b) b b same refl
+      ∙ ap (residue (2 ^ bits w)) (+ℤ-negℤ-cancel (pos r) b)
+      ∙ residue-small (2 ^ bits w) r h)
+      ∙ sym (word-signed r)
+    where
+      same : residue (2 ^ bits w) a ≡ residue (2 ^ bits w) (pos r +ℤ b)
+      same =
+          sym (word-residue a f)
+          ∙ sym e
+          ∙ ap₂ (λ (x y : ℕ). (x + y) % 2 ^ bits w) (sym (residue-small (2 ^ bits w) r h)) (word-residue b g)
+          ∙ sym (residue-add (2 ^ bits w) (pow-pos (bits w)) (pos r) b)
+
+-- what a signed word keeps has the residue
+pub wrap-residue : (B : ℕ) → 0 < B → (z : ℤ) → residue B (wrap B z) ≡ residue B z
+unfolding wrap
+wrap-residue B above z = residue-signed B (residue B z) (residue-lt B above z)

@@ -1,0 +1,2 @@
+// Layer 2: two-word numbers, coefficient lists, the numerator and its update, the Hilbert function and the dimension.
+pub mod signed;
