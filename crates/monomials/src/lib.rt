@@ -1,4 +1,2 @@
-// Layer 1: monomials, their two orders and divisibility masks. Every call checks its own input and refuses by number.
-pub mod divmask;
-pub mod monomial;
+// Layer 1: the refusals of the whole project.
 pub mod refusal;
