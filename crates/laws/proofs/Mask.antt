@@ -1,7 +1,7 @@
 -- Divisibility masks: if a divides b, the mask of a is consistent with that of b.
 -- In this file:
 --   the bits of a divisor's mask (mask-bit-mono)
---   words by their bits (word-of-lt, word-of-shift, word-within), and bit by bit as a loop makes them (shifted-one, word-of-fits,
+--   words by their bits (word-of-lt, word-of-ext, word-of-shift, word-within), and bit by bit as a loop makes them (shifted-one, word-of-fits,
 --   word-of-set, word-of-clear)
 --   masks of a divisor (mask-consistent), and what they rule out (mask-rules-out)
 --   sizes: bits a variable (each-narrow, each-wide, each-positive, each-le); thresholds fit where exponents do (threshold-lt), and the mask's
@@ -42,6 +42,11 @@ word-of-lt f (suc k) = go (f k) (word-of-lt f k)
     go : (t : Bool) → wordOf f k < 2 ^ k → bit t * 2 ^ k + wordOf f k < 2 ^ suc k
     go true h = omega (arith, pow-suc 2 k)
     go false h = omega (arith, pow-suc 2 k)
+
+-- equal bits make equal words
+pub word-of-ext : (f g : ℕ → Bool) → ((i : ℕ) → f i ≡ g i) → (k : ℕ) → wordOf f k ≡ wordOf g k
+word-of-ext f g e zero = refl
+word-of-ext f g e (suc k) = rw (e k, word-of-ext f g e k)
 
 -- bit i alone, in a word of k bits
 pub shifted-one : (k i : ℕ) → i < k → (1 * 2 ^ i) % 2 ^ k ≡ 2 ^ i

@@ -1,4 +1,5 @@
 -- What the private loops over two monomials do, in the words of the crate laws.
+--   order-same                               equal orders in the code are equal comparisons
 --   all-pass, all-stop, all-end              a test of each variable, from variable i on
 --   zip-length, zip-cell                     what is made of two monomials: its width, one variable
 --   all-divides, all-coprime, all-fits       the three tests, on equal widths
@@ -7,7 +8,7 @@
 use mathlib.Core.Path.{_≡_, refl, sym, ap, ap₂, _∙_}
 use mathlib.Core.Bool.{Bool, true, false, _&&_}
 use mathlib.Core.List.{List, [], _∷_}
-use Prim.Native.Nat.{ℕ, zero, suc, _+_, _%_, _≤_, _<_}
+use Prim.Native.Nat.{ℕ, zero, suc, _+_, _%_, _≤_, _<_, Ordering, Ordering·lt, Ordering·eq, Ordering·gt}
 use native.Mathlib.Nat.{mod-eq-of-lt}
 use native.Mathlib.Omega.{arith}
 use lib.Dec.{leb}
@@ -15,10 +16,21 @@ use lib.ListN.{length, getD, drop, drop-of-length-le}
 use Rattle.laws.specs.Monomial.{divides, product, quotient, lcm, gcd, coprime}
 use Rattle.laws.proofs.Lists.{drop-next}
 use Rattle.laws.proofs.Monomial.{and-right, head-le, cons-eq}
-use Rattle.monomials.specs.Cells.{passesOf, combinedOf, allCells, zipCells}
+use Rattle.monomials.specs.Cells.{orderOf, passesOf, combinedOf, allCells, zipCells}
 use Rattle.monomials.specs.Monomial.{atMost}
 use Rattle.monomials.specs.declared.monomial.Test.the-variants.{AtMost, Apart, SumFits}
 use Rattle.monomials.specs.declared.monomial.Combine.the-variants.{Sum, Difference, Greater, Smaller}
+
+pub order-same : (o p : Ordering) → orderOf o ≡ orderOf p → o ≡ p
+order-same Ordering·lt Ordering·lt e = refl
+order-same Ordering·lt Ordering·eq e = cc
+order-same Ordering·lt Ordering·gt e = cc
+order-same Ordering·eq Ordering·lt e = cc
+order-same Ordering·eq Ordering·eq e = refl
+order-same Ordering·eq Ordering·gt e = cc
+order-same Ordering·gt Ordering·lt e = cc
+order-same Ordering·gt Ordering·eq e = cc
+order-same Ordering·gt Ordering·gt e = refl
 
 module _ (p : ℕ → ℕ → Bool) (a b : List ℕ) (i : ℕ) where
   -- the test of variable i, and of those after it
