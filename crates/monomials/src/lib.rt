@@ -1,2 +1,4 @@
-// Layer 1: the refusals of the whole project.
+// Layer 1: monomials, their two orders and divisibility masks. Every call checks its own input and refuses by number.
+pub mod divmask;
+pub mod monomial;
 pub mod refusal;
