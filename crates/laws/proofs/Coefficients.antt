@@ -128,9 +128,14 @@ trim-snoc [] (negsuc n) h = refl
 trim-snoc (y ∷ []) x h = ap (trimCons y) (trim-snoc [] x h)
 trim-snoc (y ∷ z ∷ p) x h = ap (trimCons y) (trim-snoc (z ∷ p) x h)
 
-pub trim-end-zero : (p : List ℤ) (n : ℕ) → n < length p → coefficient p n ≡ pos 0 → trim (take (suc n) p) ≡ trim (take n p)
-trim-end-zero p n h e = rw (take-suc p n (pos 0) h, e) (trim-snoc-zero (take n p))
+pub trim-end-zero : (p : List ℤ) (n : ℕ) → 0 < n → n ≤ length p → coefficient p (n - 1) ≡ pos 0 → trim (take n p) ≡ trim (take (n - 1) p)
+trim-end-zero p zero l h e = absurd (omega arith)
+trim-end-zero p (suc n) l h e =
+    let q : suc n - 1 ≡ n = omega arith in
+    rw (q, take-suc p n (pos 0) h, rw q at e) (trim-snoc-zero (take n p))
 
-pub trim-end : (p : List ℤ) (n : ℕ) → n < length p → coefficient p n ≢ pos 0 → length (trim (take (suc n) p)) ≡ suc n
-trim-end p n h e =
-    rw (take-suc p n (pos 0) h, trim-snoc (take n p) (coefficient p n) e, length-append) (omega (arith, length-take-le n p (omega arith)))
+pub trim-end : (p : List ℤ) (n : ℕ) → 0 < n → n ≤ length p → coefficient p (n - 1) ≢ pos 0 → length (trim (take n p)) ≡ n
+trim-end p zero l h e = absurd (omega arith)
+trim-end p (suc n) l h e =
+    let q : suc n - 1 ≡ n = omega arith in
+    rw (take-suc p n (pos 0) h, trim-snoc (take n p) (coefficient p n) (rw q at e), length-append) (omega (arith, length-take-le n p (omega arith)))

@@ -9,9 +9,11 @@
 --   sums-parts               of integers: those of the positive parts less those of the negative ones
 --   sums-size                of magnitudes: those of the positive parts and those of the negative ones
 --   capped-add               a sum held down to a limit depends on its terms held down alone
+--   capped-more              one term more in a sum held down
 --   capped-below             and so does a sum of any number of terms
 --   capped-sums              and so do n-fold sums
 --   capped-stage             one more stage of sums held down is one more fold
+--   capped-reaches           a number held down reaches the limit exactly where the number does
 --   capped-large             whether a sum reaches the limit is seen from its terms held down
 --   capped-exact             and where it does not, they are the terms themselves
 use mathlib.Core.Path.{_≡_, refl, sym, ap, ap₂, _∙_}
@@ -124,6 +126,9 @@ module _ (C : ℕ) where
   pub capped-add : (a a′ b b′ : ℕ) → min a C ≡ min a′ C → min b C ≡ min b′ C → min (a + b) C ≡ min (a′ + b′) C
   capped-add a a′ b b′ h k = omega arith
 
+  pub capped-more : (a b : ℕ) → min (min a C + b) C ≡ min (b + a) C
+  capped-more a b = omega arith
+
   pub capped-below : (n : ℕ) (f g : ℕ → ℕ) → ((k : ℕ) → k < n → min (f k) C ≡ min (g k) C) → min (sumBelow n f) C ≡ min (sumBelow n g) C
   capped-below zero f g h = refl
   capped-below (suc n) f g h =
@@ -145,6 +150,13 @@ module _ (C : ℕ) where
       go : (t : Bool) → leb C (a + b) ≡ t → t ≡ leb C (a′ + b′)
       go true e = sym (le-leb C (a′ + b′) (omega (arith, leb-true C (a + b) e)))
       go false e = sym (lt-leb C (a′ + b′) (omega (arith, leb-false C (a + b) e)))
+
+  pub capped-reaches : (a : ℕ) → leb C (min a C) ≡ leb C a
+  capped-reaches a = go (leb C a) refl
+    where
+      go : (t : Bool) → leb C a ≡ t → leb C (min a C) ≡ t
+      go true e = le-leb C (min a C) (omega (arith, leb-true C a e))
+      go false e = lt-leb C (min a C) (omega (arith, leb-false C a e))
 
   pub capped-exact : (a a′ b b′ : ℕ) → min a C ≡ min a′ C → min b C ≡ min b′ C → a + b < C → (a ≡ a′) × (b ≡ b′)
   capped-exact a a′ b b′ h k l = (omega arith, omega arith)

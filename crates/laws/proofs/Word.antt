@@ -8,7 +8,8 @@
 --   two words: the sum of the low words with its carry (low-word), the sum of two pairs (pair-add), and that a pair is below the base's square
 --   and determines its words (pair-lt, pair-low, pair-high, pair-inj)
 --   two words of a number modulo the base's square (pair-words, words-unique, words-mod), the complement of a pair (pair-flip), the order of
---   pairs (pair-less, pair-order, pair-order-low, pair-large), the product of a pair with a word (pair-times) and of two words by their halves (halves-product)
+--   pairs (pair-less, pair-order, pair-order-low, pair-reaches, pair-large), the product of two words by their halves (halves-product)
+--   the product of a pair with a word: when it reaches H times the base (product-high, product-middle), and its words else (product-words)
 --   a signed word keeps the residue (wrap-residue), and the integer itself where it fits (wrap-exact)
 --   the machine's signed words are these residues (word-residue, word-signed), and its wrapping sum and difference those of the integers (wrap-add,
 --   wrap-sub, wrap-fits)
@@ -18,7 +19,7 @@ use mathlib.Core.Logic.{_≢_}
 use mathlib.Core.Bool.{Bool, true, false}
 use mathlib.Core.List.{List, [], _∷_}
 use Prim.Native.Nat.{ℕ, zero, suc, _+_, _*_, _-_, _%_, _/_, _^_, _≤_, _<_}
-use native.Mathlib.Nat.{add-mul, mul-add, mul-sub, mul-assoc, mul-left-comm, add-assoc, add-comm, add-left-comm, mod-lt, mod-eq-of-lt, mod-mod, mod-add-mod, add-mod-mod, mod-add-div, add-mul-mod-self-left, add-mul-div-left, mod-eq-sub-mod, div-eq-of-lt, mul-le-mul-left}
+use native.Mathlib.Nat.{add-mul, mul-add, mul-sub, le-of-lt, mul-le-mul-right, mul-assoc, mul-left-comm, add-assoc, add-comm, add-left-comm, mod-lt, mod-eq-of-lt, mod-mod, mod-add-mod, add-mod-mod, mod-add-div, add-mul-mod-self-left, add-mul-div-left, mod-eq-sub-mod, div-eq-of-lt, mul-le-mul-left}
 use native.Mathlib.Omega.{arith}
 use lib.Arith.{mod-mul}
 use lib.Dec.{leb, ltb}
@@ -242,21 +243,49 @@ pair-order-low B a c d = go (ltb a c) refl
     go true e = sym (lt-ltb (pair B a d) (pair B c d) (omega (arith, ltb-true a c e)))
     go false e = sym (le-ltb (pair B a d) (pair B c d) (omega (arith, ltb-false a c e)))
 
--- a pair reaches H times the base where its high word reaches H
+-- a pair whose high word reaches H reaches H times the base
+pub pair-reaches : (B H a b : ℕ) → H ≤ b → B * H ≤ pair B a b
+pair-reaches B H a b h = omega (arith, mul-le-mul-left B h)
+
+-- and only such a pair does
 pub pair-large : (B H a b : ℕ) → a < B → leb H b ≡ leb (B * H) (pair B a b)
 pair-large B H a b h = go (leb H b) refl
   where
     go : (t : Bool) → leb H b ≡ t → t ≡ leb (B * H) (pair B a b)
-    go true e = sym (le-leb (B * H) (pair B a b) (omega (arith, mul-le-mul-left B (leb-true H b e))))
+    go true e = sym (le-leb (B * H) (pair B a b) (pair-reaches B H a b (leb-true H b e)))
     go false e = sym (lt-leb (B * H) (pair B a b) (omega (arith, mul-le-mul-left B (leb-false H b e))))
-
--- the product of a pair with a word, by the products of its words
-pub pair-times : (B a b w p q r : ℕ) → a * w ≡ pair B p q → b * w ≡ r → pair B a b * w ≡ pair B p (q + r)
-pair-times B a b w p q r e f = add-mul a (B * b) w ∙ rw (e, mul-assoc B b w, f, mul-add B q r) (omega arith)
 
 -- the product of two numbers by their halves
 pub halves-product : (P a₀ a₁ b₀ b₁ : ℕ) → pair (P * P) (a₀ * b₀) (a₁ * b₁) + P * (a₀ * b₁) + P * (a₁ * b₀) ≡ pair P a₀ a₁ * pair P b₀ b₁
 halves-product P a₀ a₁ b₀ b₁ = simp (mul-add, add-mul, mul-assoc, mul-left-comm, add-assoc, add-comm, add-left-comm)
+
+-- the product of two words is below the base's square
+pub product-lt : (B a b : ℕ) → a < B → b < B → a * b < B * B
+product-lt B a b h k = omega (arith, mul-le-mul-left a (le-of-lt k), mul-le-mul-right B h)
+
+module _ (B H a b w : ℕ) (above : 0 < B) (half : H ≤ B) (small : b * w < B * B) where
+  high-words : pair B (b * w % B) (b * w / B % B) ≡ b * w
+  high-words = pair-words B above (b * w) ∙ mod-eq-of-lt small
+
+  reaches : H ≤ b * w → B * H ≤ pair B a b * w
+  reaches l = omega (arith, mul-le-mul-left B l)
+
+  -- where the high word's product has a high word
+  pub product-high : b * w / B % B ≢ 0 → B * H ≤ pair B a b * w
+  product-high n =
+      let l : 1 ≤ b * w / B % B = omega arith in
+      reaches (omega (arith, high-words, mul-le-mul-left B l))
+
+  -- where its low word reaches H
+  pub product-middle : H ≤ b * w % B → B * H ≤ pair B a b * w
+  product-middle l = reaches (omega (arith, high-words))
+
+  -- where it has no high word
+  pub product-words : a * w < B * B → b * w / B % B ≡ 0 → pair B (a * w % B) (a * w / B % B + b * w % B) ≡ pair B a b * w
+  product-words h z =
+      let e : pair B (a * w % B) (a * w / B % B) ≡ a * w = pair-words B above (a * w) ∙ mod-eq-of-lt h in
+      let f : b * w % B ≡ b * w = omega (arith, rw z at high-words) in
+      omega (arith, ap (λ (x : ℕ). B * x) f)
 
 module _ (w : Width) where
   -- the machine's bits of a signed word are the residue

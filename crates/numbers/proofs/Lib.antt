@@ -1,3 +1,5 @@
 -- Facts that belong to no one function.
 mod Bits
 mod TwoWords
+mod Capped
+mod Numbers
