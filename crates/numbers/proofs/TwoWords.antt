@@ -58,6 +58,9 @@ wide-exact a b v h k e = wide-is a b v h (e ∙ sym (mod-eq-of-lt (rw e at (valu
 pub wide-word : (a : ℕ) → a < 2 ^ 64 → words a 0 ≡ wide a
 wide-word a h = wide-exact a 0 a h (lit< tt) (omega arith)
 
+pub value-word : (a : ℕ) → a < 2 ^ 64 → value (wide a) ≡ a
+value-word a h = value-exact a (le-trans h (lit≤ tt))
+
 -- 2^32 times a word, by the word's halves
 pub wide-middle : (m : ℕ) → m < 2 ^ 64 → words (m % 2 ^ 32 * 2 ^ 32) (m / 2 ^ 32) ≡ wide (2 ^ 32 * m)
 wide-middle m h = wide-exact (m % 2 ^ 32 * 2 ^ 32) (m / 2 ^ 32) (2 ^ 32 * m) (omega arith) (omega arith) (omega arith)
@@ -109,7 +112,7 @@ signed-up z m e = rw e (wide-pos m)
 pub signed-down : (z : ℤ) (m : ℕ) → z ≡ negsuc m → m < 2 ^ 63 → wideOf (negℤ (pos (value (wide (natAbs z))))) ≡ wideOf z
 signed-down z m e h =
     let l : suc m < 2 ^ 64 = omega arith in
-    rw e (ap (λ (n : ℕ). wideOf (negℤ (pos n))) (value-exact (suc m) (le-trans l (lit≤ tt))))
+    rw e (ap (λ (n : ℕ). wideOf (negℤ (pos n))) (value-word (suc m) l))
 
 -- products
 

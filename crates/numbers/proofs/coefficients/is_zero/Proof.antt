@@ -7,4 +7,4 @@ is-zero-spec =
     tie.close
     (tie.spec
     (λ c κs. search needs)
-    (λ c. ?))
+    (λ c. rw (c .trimmed-length .ensures)))

@@ -1,12 +1,15 @@
 use mathlib.Core.Path.{_≡_, _∙_, ap}
 use Prim.Native.Nat.{ℕ, _*_, _-_, _≤_, _<_}
+use native.Mathlib.Omega.{arith}
 use lib.ListN.{length}
 use mir.Facts.{toZ-ofZ}
 use mir.Syntax.{w64}
 use Rattle.laws.specs.Coefficients.{coefficient}
+use Rattle.numbers.specs.Wide.{value}
 use Rattle.numbers.specs.HilbertParts.{numberAt, partOf}
+use Rattle.numbers.proofs.TwoWords.{value-word}
 use Rattle.numbers.proofs.Numbers.{put-more}
-use borrow.Author.Needs.{needs}
+use borrow.Author.Needs.{needs, sfits-of}
 use Rattle.numbers.proofs.hf_at.fill.Statement.{statement}
 use Rattle.numbers.proofs.hf_at.fill.Tie as tie
 
@@ -22,13 +25,15 @@ fill-spec =
     (tie.spec
     Inv-loop
     μ-loop
-    (λ c. search needs)
+    (λ c. (search needs, search needs, search needs, λ j h. absurd (omega arith)))
     (λ c κs. search needs)
     (λ c κs. search needs)
     (λ c κs. search needs)
     (λ c κs. search needs)
     (λ c. search needs)
     (λ c. search needs)
-    (λ c. ?)
+    (λ c. let a = c .before .before .before .before .before .before .before .before .before .before .args in
+    let e = rw (toZ-ofZ {w = w64} (sfits-of (c .before .before .before .before .before .before .coeff .ok)), c .before .before .before .before .before .before .coeff .ensures) at (c .before .before .before .before .part-of .ensures) in
+    (search needs, search needs, search needs, put-more (c .before .before .before .before .before .before .before .before .loop .words) (c .before .before .put-number .last .0) (c .before .before .before .before .before .before .before .before .loop .k) (c .before .before .before .from-word .result) (λ j. partOf (a .part) (coefficient (a .coeffs .now) j)) (search needs) (c .before .before .put-number .ensures) (ap value (c .before .before .before .from-word .ensures) ∙ value-word (c .before .before .before .before .part-of .result) (search needs) ∙ e) (c .before .before .before .before .before .before .before .before .loop .inv .3)))
     (λ c. search needs)
-    (λ c. ?))
+    (λ c. λ k h. c .before .loop .inv .3 k (omega arith)))

@@ -1,5 +1,8 @@
-use mathlib.Core.Path.{_≡_, _∙_, ap}
+use mathlib.Core.Path.{_≡_, refl, _∙_, ap}
 use Prim.Native.Nat.{ℕ, suc, _*_, _-_, _≤_, _<_}
+use native.Mathlib.Nat.{le-refl}
+use native.Mathlib.Numerals.{add-one}
+use native.Mathlib.Omega.{arith}
 use lib.ListN.{length}
 use Rattle.laws.specs.Sums.{sumBelow}
 use Rattle.numbers.specs.Wide.{value}
@@ -22,12 +25,15 @@ stage-spec =
     (tie.spec
     Inv-loop
     μ-loop
-    (λ c. search needs)
+    (λ c. (search needs, search needs, search needs, refl, λ j h. absurd (omega arith), λ j h. refl))
     (λ c κs. search needs)
     (λ c κs. search needs)
     (λ c κs. search needs)
     (λ c. search needs)
     (λ c. search needs)
-    (λ c. ?)
+    (λ c. let l = c .before .before .before .before .before .before .before .before .loop in
+    let f = numberAt (c .before .before .before .before .before .before .before .before .before .before .args .words .now) in
+    let t = total-more f (l .k) (l .total) (c .before .before .before .before .before .number-at .result) (c .before .before .before .before .capped-add .result) (l .inv .3) (c .before .before .before .before .before .number-at .ensures ∙ l .inv .5 (l .k) (le-refl (l .k))) (c .before .before .before .before .capped-add .ensures) in
+    (search needs, search needs, search needs, rw (add-one (l .k)) t, put-more (l .words) (c .before .before .put-number .last .0) (l .k) (c .before .before .before .before .capped-add .result) (λ j. capped (sumBelow (suc j) f)) (search needs) (c .before .before .put-number .ensures) t (l .inv .4), put-rest (l .words) (c .before .before .put-number .last .0) (l .k) (c .before .before .before .before .capped-add .result) f (search needs) (c .before .before .put-number .ensures) (l .inv .5)))
     (λ c. search needs)
-    (λ c. ?))
+    (λ c. λ k h. c .before .loop .inv .4 k (omega arith)))

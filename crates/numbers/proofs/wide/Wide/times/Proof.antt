@@ -17,8 +17,8 @@ times-spec =
     times-low (a .self .low) (a .self .high) (a .w) (c .before .before .before .before .before .product .result) (c .before .before .before .before .product2 .result) (search needs) (search needs) (search needs) (c .before .before .before .before .before .product .ensures) (c .before .before .before .before .product2 .ensures) (rw (c .before .is-large .ensures) at (c .if2 .taken)))
     (λ c. let a = c .before .before .before .before .before .before .before .before .args in
     times-middle (a .self .low) (a .self .high) (a .w) (c .before .before .before .before .before .before .before .product .result) (c .before .before .before .before .before .before .product2 .result) (search needs) (search needs) (search needs) (c .before .before .before .before .before .before .before .product .ensures) (c .before .before .before .before .before .before .product2 .ensures) (c .if3 .taken))
-    (λ c. let h = times-carry (c .before .before .before .before .before .before .before .before .before .product .result) (search needs) (rw (c .before .before .before .before .is-large .ensures) at (c .before .before .before .if2 .left)) in search needs)
+    (λ c. let h = times-carry (c .before .before .before .before .before .before .before .before .before .product .result) (search needs) (rw (c .before .before .before .before .before .is-large .ensures) at (c .before .before .before .before .if2 .left)) in search needs)
     (λ c. let a = c .before .before .before .before .before .before .before .before .before .before .before .args in
-    times-top (a .self .low) (a .self .high) (a .w) (c .before .before .before .before .before .before .before .before .before .before .product .result) (c .before .before .before .before .before .before .before .before .before .product2 .result) (search needs) (search needs) (search needs) (c .before .before .before .before .before .before .before .before .before .before .product .ensures) (c .before .before .before .before .before .before .before .before .before .product2 .ensures) ? (c .if4 .taken))
+    times-top (a .self .low) (a .self .high) (a .w) (c .before .before .before .before .before .before .before .before .before .before .product .result) (c .before .before .before .before .before .before .before .before .before .product2 .result) (search needs) (search needs) (search needs) (c .before .before .before .before .before .before .before .before .before .before .product .ensures) (c .before .before .before .before .before .before .before .before .before .product2 .ensures) (c .before .before .before .before .before .before .before .if1 .left) (c .if4 .taken))
     (λ c. let a = c .before .before .before .before .before .before .before .before .before .before .before .args in
-    times-exact (a .self .low) (a .self .high) (a .w) (c .before .before .before .before .before .before .before .before .before .before .product .result) (c .before .before .before .before .before .before .before .before .before .product2 .result) (search needs) (search needs) (search needs) (c .before .before .before .before .before .before .before .before .before .before .product .ensures) (c .before .before .before .before .before .before .before .before .before .product2 .ensures) (search needs) ? (c .if4 .left)))
+    times-exact (a .self .low) (a .self .high) (a .w) (c .before .before .before .before .before .before .before .before .before .before .product .result) (c .before .before .before .before .before .before .before .before .before .product2 .result) (search needs) (search needs) (search needs) (c .before .before .before .before .before .before .before .before .before .before .product .ensures) (c .before .before .before .before .before .before .before .before .before .product2 .ensures) (search needs) (c .before .before .before .before .before .before .before .if1 .left) (c .if4 .left)))
