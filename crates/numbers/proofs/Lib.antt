@@ -3,3 +3,4 @@ mod Bits
 mod TwoWords
 mod Capped
 mod Numbers
+mod Settled

@@ -127,10 +127,13 @@ product-halves a b h k =
   where
     a₀ : ℕ
     a₀ = a % 2 ^ 32
+
     a₁ : ℕ
     a₁ = a / 2 ^ 32
+
     b₀ : ℕ
     b₀ = b % 2 ^ 32
+
     b₁ : ℕ
     b₁ = b / 2 ^ 32
 

@@ -8,7 +8,7 @@ use monomials::refusal::MAX_WIDTH;
 use monomials::refusal::Refusal;
 ghost use mathlib.Core.Path.{_≡_};
 ghost use mathlib.Core.List.{_++_};
-ghost use Prim.Native.Nat.{ℕ, suc, _+_, _*_, _<_, _≤_};
+ghost use Prim.Native.Nat.{ℕ, suc, _+_, _*_, _^_, _<_, _≤_};
 ghost use lib.ListN.{length, replicate, drop, set};
 ghost use Rattle.laws.specs.Coefficients.{coefficient};
 ghost use Rattle.laws.specs.Sums.{sumBelow, sums};
@@ -81,6 +81,7 @@ fn difference(plus: Wide, minus: Wide) -> SignedAnswer
 fn sum_part(part: Part, n: usize, coeffs: &[i64], d: usize, words: &mut [u64]) -> Wide
     requires { ⌜ length (now words) ≡ 2 * (d + 1) ⌝ }
     ensures { λ r. ⌜ capped (value r) ≡ capped (sums n (λ k. partOf part (coefficient (now (coeffs .entry)) k)) d) ⌝ }
+    ensures { λ _. ⌜ partOf part (coefficient (now (coeffs .entry)) d) < 2 ^ 64 ⌝ }
 {
     fill(part, coeffs, d + 1, words);
     stages(n, d + 1, words);
@@ -91,6 +92,7 @@ fn sum_part(part: Part, n: usize, coeffs: &[i64], d: usize, words: &mut [u64]) -
 fn fill(part: Part, coeffs: &[i64], count: usize, words: &mut [u64])
     requires { ⌜ length (now words) ≡ 2 * count ⌝ }
     ensures { λ _. ⌜ ((k : ℕ) → k < count → numberAt (now (words .exit)) k ≡ partOf part (coefficient (now (coeffs .entry)) k)) ⌝ }
+    ensures { λ _. ⌜ ((k : ℕ) → k < count → partOf part (coefficient (now (coeffs .entry)) k) < 2 ^ 64) ⌝ }
 {
     let mut k: usize = 0;
     while k < count {

@@ -18,6 +18,8 @@ sum-part-spec =
     (λ c κs. search needs)
     (λ c κs. search needs)
     (λ c. search needs)
-    (λ c. let a = c .before .before .before .before .before .before .before .before .before .before .before .args in
-    ap capped (c .number-at .ensures) ∙ c .before .before .before .before .stages .ensures (a .d) (omega arith)
-    ∙ capped-sums (2 ^ 127) (a .n) (a .d + 1) (numberAt (c .before .before .before .before .before .before .before .before .fill .last .1 .1 .1 .0)) (λ k. partOf (a .part) (coefficient (a .coeffs .now) k)) (λ k h. ap capped (c .before .before .before .before .before .before .before .before .fill .ensures k h)) (a .d) (omega arith)))
+    (λ c. let a = c .before .before .before .before .before .before .before .before .before .before .before .args in (
+      ap capped (c .number-at .ensures) ∙ c .before .before .before .before .stages .ensures (a .d) (omega arith)
+          ∙ capped-sums (2 ^ 127) (a .n) (a .d + 1) (numberAt (c .before .before .before .before .before .before .before .before .fill .last .1 .1 .1 .0)) (λ k. partOf (a .part) (coefficient (a .coeffs .now) k)) (λ k h. ap capped (c .before .before .before .before .before .before .before .before .fill .ensures .0 k h)) (a .d) (omega arith),
+      c .before .before .before .before .before .before .before .before .fill .ensures .1 (a .d) (omega arith),
+    )))
