@@ -45,7 +45,7 @@ pub fn coeff(coeffs: &[i64], k: usize) -> i64
 }
 
 // The length without the zeros at the end.
-pub fn trimmed_length(coeffs: &[i64]) -> usize
+pub(crate) fn trimmed_length(coeffs: &[i64]) -> usize
     ensures { λ r. ⌜ r ≡ length (trim (now (coeffs .entry))) ⌝ }
 {
     let mut n = coeffs.len();

@@ -135,6 +135,13 @@ impl Wide {
     }
 }
 
+// Adds x to the total where it stands, modulo 2^128.
+pub fn add_into(total: &mut Wide, x: Wide)
+    ensures { λ _. ⌜ now (total .exit) ≡ wide (value (now (total .entry)) + value x) ⌝ }
+{
+    *total = Wide::wrapping_add(*total, x);
+}
+
 // 2^32 times m.
 fn middle(m: u64) -> Wide
     ensures { λ r. ⌜ r ≡ wide (2 ^ 32 * m) ⌝ }
