@@ -4,3 +4,4 @@ mod TwoWords
 mod Capped
 mod Numbers
 mod Settled
+pub mod DeterminedHilbert
