@@ -4,3 +4,5 @@ mod TwoWords
 mod Capped
 mod Numbers
 mod Settled
+pub mod SignedValue
+pub mod DeterminedHilbert
