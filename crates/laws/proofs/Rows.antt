@@ -12,6 +12,7 @@
 --   axis-..                            the exponents, degree, multiples and quotient of a power
 --   divides-cells                      what a monomial divides depends on its exponents alone
 --   degree-drop, degree-end            the degree, cell by cell
+--   divides-step, divides-stop, divides-end   the test, cell by cell
 --   part-is, part-len                  a part that is lent, `&room[a..a + n]`
 use mathlib.Core.Path.{_≡_, refl, sym, ap, ap₂, _∙_}
 use mathlib.Core.Logic.{_⊎_, inl, inr, _≢_}
@@ -24,7 +25,7 @@ use native.Mathlib.Numerals.{add-one}
 use lib.Dec.{leb, ltb, eqb}
 use lib.ListN.{drop-of-length-le, length, length-take, length-drop, take, drop, getD, set, length-set}
 use lib.Seq.{drop-cons, getD-take, getD-drop, ext-getD, getD-set-same, getD-set-other}
-use borrow.Author.Tests.{le-leb, ltb-true, ltb-false, eqb-true, eqb-false}
+use borrow.Author.Tests.{le-leb, lt-leb, ltb-true, ltb-false, eqb-true, eqb-false}
 use Rattle.laws.specs.Monomial.{degree, divides, quotient}
 use Rattle.laws.specs.Ideal.{In, Within, multiple}
 use Rattle.laws.proofs.Monomial.{or-right, bool-ext, cons-eq, divides-exponent, exponents-divide}
@@ -205,3 +206,17 @@ part-is n a xs = let f : a + n - a ≡ n = omega arith in ap (λ (z : ℕ). take
 
 pub part-len : (n k i : ℕ) (xs : List ℕ) → i < k → k * n ≤ length xs → length (take (i * n + n - i * n) (drop (i * n) xs)) ≡ n
 part-len n k i xs h g = ap length (part-is n (i * n) xs) ∙ at-length n k i xs h g
+
+-- divides, cell by cell: what is left of the two decides
+
+divides-from : (a b : List ℕ) (i : ℕ) → i < length a → i < length b → divides (drop i a) (drop i b) ≡ (leb (getD a i 0) (getD b i 0) && divides (drop (i + 1) a) (drop (i + 1) b))
+divides-from a b i h g = rw (add-one i) (ap₂ divides (drop-cons a i 0 h) (drop-cons b i 0 g))
+
+pub divides-step : (a b : List ℕ) (i : ℕ) → i < length a → i < length b → getD a i 0 ≤ getD b i 0 → divides a b ≡ divides (drop i a) (drop i b) → divides a b ≡ divides (drop (i + 1) a) (drop (i + 1) b)
+divides-step a b i h g l e = e ∙ divides-from a b i h g ∙ rw (le-leb (getD a i 0) (getD b i 0) l)
+
+pub divides-stop : (a b : List ℕ) (i : ℕ) → i < length a → i < length b → getD b i 0 < getD a i 0 → divides a b ≡ divides (drop i a) (drop i b) → false ≡ divides a b
+divides-stop a b i h g l e = sym (e ∙ divides-from a b i h g ∙ rw (lt-leb (getD a i 0) (getD b i 0) l))
+
+pub divides-end : (a b : List ℕ) (i : ℕ) → length a ≤ i → divides a b ≡ divides (drop i a) (drop i b) → true ≡ divides a b
+divides-end a b i h e = sym (e ∙ ap (λ (z : List ℕ). divides z (drop i b)) (drop-of-length-le a h))
