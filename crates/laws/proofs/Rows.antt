@@ -11,19 +11,20 @@
 --   row-kept, row-copied               the rows after one of them was written
 --   axis-..                            the exponents, degree, multiples and quotient of a power
 --   divides-cells                      what a monomial divides depends on its exponents alone
+--   filled                             a loop that writes zeros
 --   degree-drop, degree-end            the degree, cell by cell
 --   divides-step, divides-stop, divides-end   the test, cell by cell
 --   part-is, part-len                  a part that is lent, `&room[a..a + n]`
 use mathlib.Core.Path.{_≡_, refl, sym, ap, ap₂, _∙_}
 use mathlib.Core.Logic.{_⊎_, inl, inr, _≢_}
 use mathlib.Core.Bool.{Bool, true, false, _&&_, _||_, false≢true}
-use mathlib.Core.List.{List, [], _∷_}
+use mathlib.Core.List.{List, [], _∷_, _++_, append-nil}
 use Prim.Native.Nat.{ℕ, zero, suc, _+_, _*_, _-_, _≤_, _<_}
 use native.Mathlib.Omega.{arith}
 use native.Mathlib.Nat.{mul-le-mul-right, suc-mul}
 use native.Mathlib.Numerals.{add-one}
 use lib.Dec.{leb, ltb, eqb}
-use lib.ListN.{drop-of-length-le, length, length-take, length-drop, take, drop, getD, set, length-set}
+use lib.ListN.{drop-of-length-le, length, replicate, length-take, length-drop, take, drop, getD, set, length-set}
 use lib.Seq.{drop-cons, getD-take, getD-drop, ext-getD, getD-set-same, getD-set-other}
 use borrow.Author.Tests.{le-leb, lt-leb, ltb-true, ltb-false, eqb-true, eqb-false}
 use Rattle.laws.specs.Monomial.{degree, divides, quotient}
@@ -220,3 +221,9 @@ divides-stop a b i h g l e = sym (e ∙ divides-from a b i h g ∙ rw (lt-leb (g
 
 pub divides-end : (a b : List ℕ) (i : ℕ) → length a ≤ i → divides a b ≡ divides (drop i a) (drop i b) → true ≡ divides a b
 divides-end a b i h e = sym (e ∙ ap (λ (z : List ℕ). divides z (drop i b)) (drop-of-length-le a h))
+
+-- a loop that writes zeros has written them all
+pub filled : (i : ℕ) (xs ys : List ℕ) → i ≤ length xs → length xs ≤ i → ys ≡ replicate i 0 ++ drop i xs → ys ≡ replicate (length xs) 0
+filled i xs ys h g e =
+    let f : i ≡ length xs = omega arith in
+    e ∙ ap (λ (zs : List ℕ). replicate i 0 ++ zs) (drop-of-length-le xs g) ∙ append-nil (replicate i 0) ∙ ap (λ (z : ℕ). replicate z 0) f

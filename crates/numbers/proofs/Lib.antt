@@ -1,2 +1,3 @@
 -- Facts that belong to no one function.
 mod Bits
+mod NumeratorCall

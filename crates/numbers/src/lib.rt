@@ -9,3 +9,5 @@ mod few;
 mod hints;
 mod parts;
 mod engine;
+mod asked;
+pub mod numerator;

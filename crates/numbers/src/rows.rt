@@ -2,7 +2,7 @@
 ghost use mathlib.Core.Logic.{_⊎_};
 ghost use mathlib.Core.Path.{_≡_};
 ghost use Prim.Native.Nat.{_+_, _*_, _<_, _≤_};
-ghost use lib.ListN.{length, getD};
+ghost use lib.ListN.{length, getD, replicate};
 ghost use Rattle.laws.proofs.Rows.{Wrote, axis};
 ghost use Rattle.laws.proofs.Pass.{Swapped, Thinned};
 
@@ -16,6 +16,29 @@ pub(crate) fn copy_cells(room: &mut [u16], from: usize, to: usize, n: usize)
     while i < n {
         let x = room[from + i];
         room[to + i] = x;
+        i += 1;
+    }
+}
+
+// The cells, from `to` on.
+pub(crate) fn put_cells(room: &mut [u16], to: usize, cells: &[u16])
+    requires { ⌜ to + length (now cells) ≤ length (now room) ⌝ }
+    ensures { λ _. ⌜ Wrote (now (room .entry)) (λ j. getD (now (cells .entry)) j 0) to (length (now (cells .entry))) (now (room .exit)) ⌝ }
+{
+    let mut i: usize = 0;
+    while i < cells.len() {
+        room[to + i] = cells[i];
+        i += 1;
+    }
+}
+
+// Zeros.
+pub(crate) fn wipe(room: &mut [u16])
+    ensures { λ _. ⌜ now (room .exit) ≡ replicate (length (now (room .entry))) 0 ⌝ }
+{
+    let mut i: usize = 0;
+    while i < room.len() {
+        room[i] = 0;
         i += 1;
     }
 }
