@@ -1,3 +1,4 @@
 -- Facts that belong to no one function.
 mod Bits
 mod NumeratorCall
+pub mod DeterminedNumerator
