@@ -1,13 +1,13 @@
 // Layer 2: two-word numbers, coefficient lists, the numerator and its update, the Hilbert function and the dimension.
-pub mod signed;
-mod rows;
-mod minimal;
-mod pivot;
-mod leaf;
+mod asked;
 mod branch;
+mod engine;
 mod few;
 mod hints;
-mod parts;
-mod engine;
-mod asked;
+mod leaf;
+mod minimal;
 pub mod numerator;
+mod parts;
+mod pivot;
+mod rows;
+pub mod signed;
