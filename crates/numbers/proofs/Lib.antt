@@ -5,6 +5,10 @@ mod Capped
 mod Numbers
 mod Settled
 mod NumeratorCall
+mod LeastPowers
+mod WideSums
+mod DimensionCall
 pub mod SignedValue
 pub mod DeterminedHilbert
 pub mod DeterminedNumerator
+pub mod DeterminedDimension
