@@ -12,16 +12,22 @@
 --   revlex-total                     and the order that decides at equal degree
 --   degrevlex-degree                 the smaller degree is the smaller monomial by DegRevLex
 --   degrevlex-greater-degree         the greater by DegRevLex has at least the degree
+--   orElse-same, orElse-differ       equal numbers leave it to what follows, unequal ones decide
+--   lex-next, lex-differ             Lex, from the first variable on
+--   revlex-same, revlex-differ       what DegRevLex asks at equal degree, from the last variable down
 use mathlib.Core.Path.{_≡_, refl, sym, ap, ap₂, _∙_}
 use mathlib.Core.Logic.{_↔_}
 use mathlib.Core.Bool.{Bool, true, false}
 use mathlib.Core.List.{List, [], _∷_}
-use Prim.Native.Nat.{ℕ, _≤_, _<_, compare, Ordering, Ordering·lt, Ordering·eq, Ordering·gt}
+use Prim.Native.Nat.{ℕ, zero, suc, _+_, _≤_, _<_, compare, Ordering, Ordering·lt, Ordering·eq, Ordering·gt}
+use native.Mathlib.Numerals.{add-one}
 use native.Mathlib.Omega.{arith}
 use lib.Dec.{leb, isLe, isEq}
+use lib.ListN.{length, getD, drop}
 use borrow.Author.Tests.{leb-true, leb-false, eqb-true, eqb-false}
 use Rattle.laws.specs.Monomial.{degree}
 use Rattle.laws.specs.Order.{orElse, lex, revlex, degrevlex}
+use Rattle.laws.proofs.Lists.{drop-next}
 use Rattle.laws.proofs.Monomial.{cons-eq}
 
 -- orderings
@@ -260,3 +266,42 @@ degrevlex-greater-degree a b h = go (leb (degree b) (degree a)) refl
     go : (t : Bool) → leb (degree b) (degree a) ≡ t → degree b ≤ degree a
     go true p = leb-true (degree b) (degree a) p
     go false p = absurd (lt-not-gt (sym (degrevlex-degree a b (leb-false (degree b) (degree a) p)) ∙ h))
+
+-- the orders, variable by variable
+
+-- equal numbers leave it to what follows
+pub orElse-same : (x y : ℕ) (p : Ordering) → x ≡ y → orElse (compare x y) p ≡ p
+orElse-same x y p e = rw (says-compare Ordering·eq x y e)
+
+-- unequal ones decide
+pub orElse-differ : (x y : ℕ) (p : Ordering) → (x ≡ y → ⊥) → orElse (compare x y) p ≡ compare x y
+orElse-differ x y p d = go (compare x y) refl
+  where
+    go : (o : Ordering) → compare x y ≡ o → orElse o p ≡ o
+    go Ordering·lt e = refl
+    go Ordering·eq e = absurd (d (compare-says Ordering·eq x y e))
+    go Ordering·gt e = refl
+
+-- Lex goes on where two exponents are equal
+pub lex-next : (a b : List ℕ) (i : ℕ) → i < length a → i < length b → getD a i 0 ≡ getD b i 0 → lex (drop i a) (drop i b) ≡ lex (drop (i + 1) a) (drop (i + 1) b)
+lex-next a b i h k e = rw (drop-next a i h, drop-next b i k) (orElse-same (getD a i 0) (getD b i 0) (lex (drop (i + 1) a) (drop (i + 1) b)) e)
+
+-- and the first two that differ decide it
+pub lex-differ : (a b : List ℕ) (i : ℕ) → i < length a → i < length b → (getD a i 0 ≡ getD b i 0 → ⊥) → lex (drop i a) (drop i b) ≡ compare (getD a i 0) (getD b i 0)
+lex-differ a b i h k d = rw (drop-next a i h, drop-next b i k) (orElse-differ (getD a i 0) (getD b i 0) (lex (drop (i + 1) a) (drop (i + 1) b)) d)
+
+-- nothing differs
+pub revlex-same : (a b : List ℕ) → a ≡ b → revlex a b ≡ Ordering·eq
+revlex-same a b e = revlex-total .same a b .1 e
+
+-- of the variables, i is the last in which they differ
+pub revlex-differ : (a b : List ℕ) (i : ℕ) → i < length a → i < length b → drop (i + 1) a ≡ drop (i + 1) b → (getD a i 0 ≡ getD b i 0 → ⊥)
+    → revlex a b ≡ compare (getD b i 0) (getD a i 0)
+revlex-differ a b i h k e d = go a b i h k (rw add-one at e) d
+  where
+    go : (a b : List ℕ) (i : ℕ) → i < length a → i < length b → drop (suc i) a ≡ drop (suc i) b → (getD a i 0 ≡ getD b i 0 → ⊥)
+        → revlex a b ≡ compare (getD b i 0) (getD a i 0)
+    go [] b i h k e d = absurd (omega arith)
+    go (x ∷ a) [] i h k e d = absurd (omega arith)
+    go (x ∷ a) (y ∷ b) zero h k e d = rw (revlex-same a b e)
+    go (x ∷ a) (y ∷ b) (suc i) h k e d = rw (go a b i (omega arith) (omega arith) e d) (orElse-differ (getD b i 0) (getD a i 0) (compare y x) (λ z. d (sym z)))

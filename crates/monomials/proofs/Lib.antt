@@ -1,0 +1,2 @@
+-- The proofs of layer 1.
+mod Cells

@@ -1,0 +1,23 @@
+-- `mask_bit` meets its contract. Rests on `mask-bit-outside` and `mask-bit-inside`.
+use borrow.Author.Needs.{needs}
+use native.Mathlib.Omega.{arith}
+use mathlib.Core.Path.{sym}
+use native.Mathlib.Nat.{mod-lt}
+use Rattle.laws.proofs.Mask.{mask-bit-outside, mask-bit-inside}
+use Rattle.monomials.proofs.divmask.mask_bit.Statement.{statement}
+use Rattle.monomials.proofs.divmask.mask_bit.Tie as tie
+
+pub mask-bit-spec : {M : Type 1} → statement M
+mask-bit-spec =
+    tie.close
+    (tie.spec
+    (λ c κs. search needs)
+    (λ c. search needs)
+    -- returns
+    (λ c. let a = c .before .before .before .args in sym (mask-bit-outside (a .n) (a .max-deg) (a .i) (c .before .bits-each .result) (a .exps .now) (omega arith) (c .before .bits-each .ensures .0) (c .if1 .taken)))
+    (λ c. search needs)
+    -- threshold-of-requires
+    (λ c κs. (omega arith, omega arith, mod-lt (c .before .before .before .args .i) (omega arith)))
+    (λ c κs. search needs)
+    -- returns-2
+    (λ c. let a = c .before .before .before .before .before .args in sym (mask-bit-inside (a .n) (a .max-deg) (a .i) (c .before .before .before .bits-each .result) (c .before .threshold-of .result) (c .exponent-at .result) (a .exps .now) (omega arith) (c .before .before .before .bits-each .ensures .0) (c .before .before .if1 .left) (c .before .threshold-of .ensures) (c .exponent-at .ensures))))
