@@ -1,8 +1,12 @@
 -- Laws of reading an ideal record: what a reader tests, and what it then has.
 --   byte-at, bytes-drop, bytes-take      bytes, one of them and a part of them
---   cellsIn-length, cellsIn-small        the numbers in bytes: half as many, each below 65536
+--   bytes-by                             numbers below 256 are bytes
+--   value-field                          the number in bytes 1 to 4
+--   cellsIn-length, cellsIn-at, cellsIn-small    the numbers in bytes: half as many, one of them, each below 65536
+--   exponentsIn-at                       one exponent of a record, by its bytes
 --   cellsIn-monomialBytes                exponents written, then read
 --   monomialBytes-cells                  bytes read, then written
+--   listed-at                            one of the monomials that lie in cells
 --   listed-written                       a list written as exponent bytes and read again
 --   written-listed                       exponent bytes read as a list and written again
 --   Tests C bytes                        == what a reader tests of bytes that list at most C monomials
@@ -22,7 +26,7 @@ use lib.Dec.{leb, ltb, eqb}
 use lib.ListN.{length, getD, take, drop, length-append, length-take, length-drop, take-append-drop}
 use lib.Seq.{take-at, drop-at, drop-cons, drop-drop, getD-drop}
 use lib.Pow.{areBytes}
-use borrow.Author.Tests.{ltb-true, leb-true, le-leb, eqb-true, eq-eqb}
+use borrow.Author.Tests.{lt-ltb, ltb-true, leb-true, le-leb, eqb-true, eq-eqb}
 use Rattle.laws.specs.Monomial.{exponent}
 use Rattle.laws.specs.Ideal.{listed, In, Width}
 use Rattle.laws.specs.Count.{equal}
@@ -54,6 +58,20 @@ bytes-take zero bs h = refl
 bytes-take (suc i) [] h = refl
 bytes-take (suc i) (b ∷ bs) h = ap₂ _&&_ (and-left (ltb b 256) (areBytes bs) h) (bytes-take i bs (other-bytes b bs h))
 
+-- numbers below 256 are bytes
+pub bytes-by : (bs : List ℕ) → ((i : ℕ) → i < length bs → getD bs i 0 < 256) → areBytes bs ≡ true
+bytes-by [] h = refl
+bytes-by (b ∷ bs) h = ap₂ _&&_ (lt-ltb b 256 (h 0 (omega arith))) (bytes-by bs (λ i l. h (suc i) (omega arith)))
+
+-- the length field, by its bytes
+pub value-field : (bs : List ℕ) → 5 ≤ length bs → value (take 4 (drop 1 bs)) ≡ 65536 * (256 * getD bs 1 0 + getD bs 2 0) + (256 * getD bs 3 0 + getD bs 4 0)
+value-field [] h = absurd (omega arith)
+value-field (a ∷ []) h = absurd (omega arith)
+value-field (a ∷ b ∷ []) h = absurd (omega arith)
+value-field (a ∷ b ∷ c ∷ []) h = absurd (omega arith)
+value-field (a ∷ b ∷ c ∷ d ∷ []) h = absurd (omega arith)
+value-field (a ∷ b ∷ c ∷ d ∷ e ∷ bs) h = omega arith
+
 -- numbers of two bytes
 
 -- half as many
@@ -61,6 +79,22 @@ pub cellsIn-length : (bs : List ℕ) → length (cellsIn bs) ≡ length bs / 2
 cellsIn-length [] = refl
 cellsIn-length (x ∷ []) = refl
 cellsIn-length (x ∷ y ∷ bs) = omega (arith, cellsIn-length bs)
+
+-- one of them
+pub cellsIn-at : (bs : List ℕ) (i : ℕ) → 2 * i + 1 < length bs → getD (cellsIn bs) i 0 ≡ 256 * getD bs (2 * i) 0 + getD bs (2 * i + 1) 0
+cellsIn-at [] i h = absurd (omega arith)
+cellsIn-at (x ∷ []) i h = absurd (omega arith)
+cellsIn-at (x ∷ y ∷ bs) zero h = refl
+cellsIn-at (x ∷ y ∷ bs) (suc i) h =
+    let p : 2 * suc i ≡ suc (suc (2 * i)) = omega arith in
+    let q : 2 * suc i + 1 ≡ suc (suc (2 * i + 1)) = omega arith in
+    rw (q, p) (cellsIn-at bs i (omega arith))
+
+-- the exponents of a record, by its bytes
+pub exponentsIn-at : (bytes : List ℕ) (i : ℕ) → 7 + 2 * i + 1 < length bytes → getD (exponentsIn bytes) i 0 ≡ 256 * getD bytes (7 + 2 * i) 0 + getD bytes (7 + 2 * i + 1) 0
+exponentsIn-at bytes i h =
+    let e : 7 + (2 * i + 1) ≡ 7 + 2 * i + 1 = omega arith in
+    cellsIn-at (drop 7 bytes) i (rw length-drop (omega arith)) ∙ rw (getD-drop 7 bytes (2 * i) 0, getD-drop 7 bytes (2 * i + 1) 0, e)
 
 -- each fits into two bytes
 pub cellsIn-small : (bs : List ℕ) → areBytes bs ≡ true → (v : ℕ) → exponent (cellsIn bs) v < 65536
@@ -86,6 +120,14 @@ monomialBytes-cells (suc k) (x ∷ y ∷ bs) h e =
     cons-eq (omega arith) (cons-eq (omega arith) (monomialBytes-cells k bs (other-bytes y bs (other-bytes x (y ∷ bs) h)) (omega arith)))
 
 -- lists of monomials
+
+-- one of the monomials that lie in cells
+pub listed-at : (n s i : ℕ) (cells : List ℕ) → i < s → getD (listed n s cells) i [] ≡ take n (drop (i * n) cells)
+listed-at n zero i cells h = absurd (omega arith)
+listed-at n (suc s) zero cells h = rw (zero-mul n)
+listed-at n (suc s) (suc i) cells h =
+    let e : n + i * n ≡ suc i * n = omega (arith, suc-mul i n) in
+    listed-at n s i (drop n cells) (omega arith) ∙ ap (take n) (drop-drop (i * n) n cells ∙ ap (λ (j : ℕ). drop j cells) e)
 
 -- n exponents at a time
 pub listed-written : (n : ℕ) (L : List (List ℕ)) → Width n L → Small L → listed n (length L) (cellsIn (exponentBytes L)) ≡ L
