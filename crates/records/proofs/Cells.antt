@@ -1,5 +1,5 @@
 -- Monomials in cells, in the words of the crate laws.
---   row-end, row-within, row-length   the cells of one monomial
+--   row-end, next-rows, row-within, row-length   the cells of one monomial
 --   area                           how many exponents a record has at most
 --   part-row                       the part of the cells that is lent for it
 --   compared, unrefused            what the comparison of two answers
@@ -38,6 +38,10 @@ use Rattle.records.specs.Rows.{row, lessIs, isLess}
 -- the cells of monomial i of s end within s * n
 pub row-end : (n s i : ℕ) → i < s → i * n + n ≤ s * n
 row-end n s i h = omega (arith, mul-le-mul-right n h, suc-mul i n)
+
+-- the cells of one monomial more
+pub next-rows : (n k : ℕ) → (k + 1) * n ≡ k * n + n
+next-rows n k = rw (add-one k) (suc-mul k n)
 
 -- and so within the cells
 pub row-within : (n s i : ℕ) (cells : List ℕ) → length cells ≡ s * n → i < s → i * n + n ≤ length cells

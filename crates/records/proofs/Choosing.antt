@@ -4,18 +4,28 @@
 --   rowsAt-append, rowsAt-take, rowsAt-drop, rowsAt-length, rowsAt-next, rowsAt-end    the monomials at places
 --   seat-more, seat-end            the seat of a monomial, one place further or found
 --   insert-seat, insert-there      a monomial put into a list that falls, at its seat or not at all
+--   inserted, inserted-below       the same for its place
+--   chosen-more, chosen-same       the minimal monomials from place i on, greatest first
+--   rowsAt-width, spread-next      the bytes of the monomials at places, one monomial more
 -- Assumes nothing.
 use mathlib.Core.Path.{_≡_, refl, sym, ap, ap₂, _∙_}
+use mathlib.Core.Logic.{inl, inr}
 use mathlib.Core.Bool.{Bool, true, false, cond}
 use mathlib.Core.List.{List, [], _∷_, _++_}
 use Prim.Native.Nat.{ℕ, zero, suc, _+_, _*_, _-_, _≤_, _<_, Ordering, Ordering·lt, Ordering·eq, Ordering·gt}
 use native.Mathlib.Omega.{arith}
 use native.Mathlib.Numerals.{add-one}
 use lib.ListN.{length, getD, take, drop, set, length-take, length-drop, length-map, List·getD-append, drop-of-length-le}
-use lib.Seq.{drop-cons, getD-take, take-set-lt, take-take, drop-drop}
+use lib.Seq.{drop-cons, getD-take, take-suc, take-set-lt, take-take, sets}
+use Rattle.laws.specs.Ideal.{listed, Width}
+use Rattle.laws.specs.Count.{keep}
 use Rattle.laws.specs.Order.{degrevlex}
-use Rattle.laws.specs.Minimal.{place, insert}
+use Rattle.laws.specs.Minimal.{minimalIn, place, insert, falling}
+use Rattle.laws.specs.Record.{monomialBytes, exponentBytes}
+use Rattle.laws.proofs.Record.{exponentBytes-length}
+use Rattle.laws.proofs.Writing.{sets-append, exponentBytes-next}
 use Rattle.records.specs.Rows.{row, rowsAt, Below, isLess, isEqual, seatOf, sameAt}
+use Rattle.records.proofs.Cells.{row-length, row-within, listed-next}
 
 -- places moved
 
@@ -139,3 +149,57 @@ insert-there a (k ∷ K) h = go (degrevlex a k) refl h (insert-there a K)
     go Ordering·lt e g f = ap (λ (r : List (List ℕ)). k ∷ r) (f g)
     go Ordering·eq e g f = refl
     go Ordering·gt e g f = cc (ap isEqual e)
+
+-- place i put among the first m places, at the seat of its monomial
+module _ (n s m p i : ℕ) (cells ps d : List ℕ) (h : p ≤ m) (e : d ≡ take p ps ++ i ∷ drop p (take m ps)) where
+  split : d ≡ take p (take m ps) ++ i ∷ drop p (take m ps)
+  split = rw (take-take p m ps h) e
+
+  pub inserted : p ≡ seatOf (row n cells i) (rowsAt n cells (take m ps)) → sameAt (row n cells i) (drop p (rowsAt n cells (take m ps))) ≡ false
+      → rowsAt n cells d ≡ insert (row n cells i) (rowsAt n cells (take m ps))
+  inserted f g =
+      let P = take m ps in
+      ap (rowsAt n cells) split
+      ∙ rowsAt-append n cells (take p P) (i ∷ drop p P)
+      ∙ rw (rowsAt-take n cells p P, rowsAt-drop n cells p P, f)
+      (sym (insert-seat (row n cells i) (rowsAt n cells P) (rw f at g)))
+
+  pub inserted-below : Below s (take m ps) → i < s → Below s d
+  inserted-below b l = rw split (below-append s (take p (take m ps)) (i ∷ drop p (take m ps)) (below-take s p (take m ps) b) (l, below-drop s p (take m ps) b))
+
+-- the bytes of the monomials at places
+
+module _ (n s : ℕ) (cells : List ℕ) (h : length cells ≡ s * n) where
+  pub rowsAt-width : (ps : List ℕ) → Below s ps → Width n (rowsAt n cells ps)
+  rowsAt-width [] b m i = absurd i
+  rowsAt-width (p ∷ ps) b m (inl e) = ap length e ∙ row-length n p cells (row-within n s p cells h (b .0))
+  rowsAt-width (p ∷ ps) b m (inr i) = rowsAt-width ps (b .1) m i
+
+  -- one monomial more
+  pub spread-next : (out ps : List ℕ) (m k : ℕ) → Below s (take m ps) → k < m → m ≤ length ps
+      → sets (sets out 7 (exponentBytes (rowsAt n cells (take k ps)))) (7 + 2 * (k * n)) (monomialBytes (row n cells (getD ps k 0)))
+      ≡ sets out 7 (exponentBytes (rowsAt n cells (take (k + 1) ps)))
+  spread-next out ps m k b l g =
+      let K = rowsAt n cells (take k ps) in
+      let x = row n cells (getD ps k 0) in
+      let w : Width n K = rowsAt-width (take k ps) (rw (take-take k m ps (omega arith)) at (below-take s k (take m ps) b)) in
+      let c : length K ≡ k = rowsAt-length n cells (take k ps) ∙ length-take k ps ∙ omega arith in
+      let e : 7 + 2 * (k * n) ≡ 7 + length (exponentBytes K) = omega (arith, exponentBytes-length n K w, ap (λ (j : ℕ). j * n) c) in
+      let d : take (k + 1) ps ≡ take k ps ++ getD ps k 0 ∷ [] = rw (add-one k) (take-suc ps k 0 (omega arith)) in
+      rw (e, d, rowsAt-append n cells (take k ps) (getD ps k 0 ∷ []), exponentBytes-next K x) (sym (sets-append out 7 (exponentBytes K) (monomialBytes x)))
+
+-- the minimal ones from monomial i on, greatest first
+module _ (n s i : ℕ) (cells : List ℕ) (h : i < s) where
+  abbrev chosen : ℕ → List (List ℕ)
+  chosen j = falling (keep (minimalIn (listed n s cells)) (drop j (listed n s cells)))
+
+  from-here : chosen i ≡ falling (cond (minimalIn (listed n s cells) (row n cells i)) (row n cells i ∷ keep (minimalIn (listed n s cells)) (drop (i + 1) (listed n s cells))) (keep (minimalIn (listed n s cells)) (drop (i + 1) (listed n s cells))))
+  from-here = ap (λ (L : List (List ℕ)). falling (keep (minimalIn (listed n s cells)) L)) (listed-next n s i cells h)
+
+  -- monomial i is minimal
+  pub chosen-more : minimalIn (listed n s cells) (row n cells i) ≡ true → chosen i ≡ insert (row n cells i) (chosen (i + 1))
+  chosen-more e = from-here ∙ rw e
+
+  -- it is not
+  pub chosen-same : minimalIn (listed n s cells) (row n cells i) ≡ false → chosen i ≡ chosen (i + 1)
+  chosen-same e = from-here ∙ rw e

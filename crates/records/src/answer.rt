@@ -25,7 +25,7 @@ pub fn write_answer(status: u8, low: u64, high: u64, top: u32, out: &mut [u8]) -
         };
     }
     if status == 0 {
-        put_answer(status, low, high, top, out);
+        put_answer(0, low, high, top, out);
     } else {
         put_answer(status, 0, 0, 0, out);
     }

@@ -1,82 +1,23 @@
+-- `put_rows` meets its contract: the exponents of the first k monomials are written.
+use native.Mathlib.Omega.{arith}
+use mathlib.Core.Path.{_≡_, refl, sym, ap, _∙_}
+use Prim.Native.Nat.{_+_, _*_, _-_, _≤_}
+use native.Mathlib.Nat.{zero-mul}
+use lib.ListN.{length, getD, take}
+use lib.Seq.{sets}
+use Rattle.laws.specs.Record.{exponentBytes}
+use Rattle.records.specs.Rows.{rowsAt}
+use Rattle.records.proofs.Cells.{row-end, next-rows, row-within, row-length, part-row}
+use Rattle.records.proofs.Choosing.{place-below, spread-next}
+use borrow.Author.Needs.{needs}
 use Rattle.records.proofs.ideal.put_rows.Statement.{statement}
 use Rattle.records.proofs.ideal.put_rows.Tie as tie
-use Rattle.records.proofs.ideal.put_rows.Reads as reads
-use Rattle.records.proofs.ideal.put_rows.Lts as lts
-use Rattle.records.proofs.bytes.put_cells.Reads as put-cells-reads
 
 abbrev Inv-loop : tie.InvT-loop
-Inv-loop out₀ n s cells places m k₀ at₀ out k at = ?
+Inv-loop out₀ n s cells places m k₀ at₀ out k at = (k ≤ m) × (length out ≡ length out₀) × (at ≡ 7 + 2 * (k * n)) × (out ≡ sets out₀ 7 (exponentBytes (rowsAt n cells (take k places))))
 
 abbrev μ-loop : tie.MeasureT-loop
-μ-loop out₀ n s cells places m k₀ at₀ out k at = ?
-
--- src/ideal.rt:213:5
-loop-holds : tie.Need-loop-holds Inv-loop μ-loop
-loop-holds c = ?
-
--- src/ideal.rt:214:20
-mul-from : tie.Need-mul-from Inv-loop μ-loop
-mul-from c = ?
-
--- src/ideal.rt:214:20
-shared-slice-read-from : tie.Need-shared-slice-read-from Inv-loop μ-loop
-shared-slice-read-from c = ?
-
--- src/ideal.rt:214:20
-mul-from-2 : tie.Need-mul-from-2 Inv-loop μ-loop
-mul-from-2 c = ?
-
--- src/ideal.rt:215:18
-add-to : tie.Need-add-to Inv-loop μ-loop
-add-to c = ?
-
--- src/ideal.rt:216:28
-mul-put-cells : tie.Need-mul-put-cells Inv-loop μ-loop
-mul-put-cells c = ?
-
--- src/ideal.rt:216:28
-sub-put-cells : tie.Need-sub-put-cells Inv-loop μ-loop
-sub-put-cells c = ?
-
--- src/ideal.rt:216:28
-part-put-cells-start : tie.Need-part-put-cells-start Inv-loop μ-loop
-part-put-cells-start c = ?
-
--- src/ideal.rt:216:28
-part-put-cells-end : tie.Need-part-put-cells-end Inv-loop μ-loop
-part-put-cells-end c = ?
-
--- src/ideal.rt:216:9
-put-cells-requires : tie.Need-put-cells-requires Inv-loop μ-loop
-put-cells-requires c κs = ?
-
--- src/ideal.rt:217:15
-mul-at : tie.Need-mul-at Inv-loop μ-loop
-mul-at c = ?
-
--- src/ideal.rt:217:9
-add-at : tie.Need-add-at Inv-loop μ-loop
-add-at c = ?
-
--- src/ideal.rt:218:9
-add-k : tie.Need-add-k Inv-loop μ-loop
-add-k c = ?
-
--- src/ideal.rt:213:5
-loop-less : tie.Need-loop-less Inv-loop μ-loop
-loop-less c = ?
-
--- src/ideal.rt:213:5
-loop-again : tie.Need-loop-again Inv-loop μ-loop
-loop-again c = ?
-
--- src/ideal.rt:206:1
-same-length : tie.Need-same-length Inv-loop μ-loop
-same-length c = ?
-
--- src/ideal.rt:206:1
-returns : tie.Need-returns Inv-loop μ-loop
-returns c = ?
+μ-loop out₀ n s cells places m k₀ at₀ out k at = m - k
 
 pub put-rows-spec : {M : Type 1} → statement M
 put-rows-spec =
@@ -84,20 +25,31 @@ put-rows-spec =
     (tie.spec
     Inv-loop
     μ-loop
-    loop-holds
-    mul-from
-    shared-slice-read-from
-    mul-from-2
-    add-to
-    mul-put-cells
-    sub-put-cells
-    part-put-cells-start
-    part-put-cells-end
-    put-cells-requires
-    mul-at
-    add-at
-    add-k
-    loop-less
-    loop-again
-    same-length
-    returns)
+    -- loop-holds
+    (λ c. (omega arith, refl, omega (arith, zero-mul (c .before .before .before .args .n)), refl))
+    (λ c. search needs)
+    (λ c. search needs)
+    -- mul-from-2
+    (λ c. let a = c .before .before .before .before .before .before .args in let q = c .before .before .before .before .before .before .pre in let l = c .before .before .loop in let w = row-within (a .n) (a .s) (getD (a .places .now) (l .k) 0) (a .cells .now) (q .0 .0) (place-below (a .s) (a .m) (l .k) (a .places .now) (q .0 .2) (c .before .loop-test .taken) (q .0 .1)) in omega arith)
+    -- add-to
+    (λ c. let a = c .before .before .before .before .before .before .args in let q = c .before .before .before .before .before .before .pre in let l = c .before .before .loop in let w = row-within (a .n) (a .s) (getD (a .places .now) (l .k) 0) (a .cells .now) (q .0 .0) (place-below (a .s) (a .m) (l .k) (a .places .now) (q .0 .2) (c .before .loop-test .taken) (q .0 .1)) in omega arith)
+    -- mul-put-cells
+    (λ c. let a = c .before .before .before .before .before .before .before .args in let q = c .before .before .before .before .before .before .before .pre in let l = c .before .before .before .loop in let w = row-within (a .n) (a .s) (getD (a .places .now) (l .k) 0) (a .cells .now) (q .0 .0) (place-below (a .s) (a .m) (l .k) (a .places .now) (q .0 .2) (c .before .before .loop-test .taken) (q .0 .1)) in omega arith)
+    (λ c. search needs)
+    (λ c. search needs)
+    -- part-put-cells-end
+    (λ c. let a = c .before .before .before .before .before .before .before .args in let q = c .before .before .before .before .before .before .before .pre in let l = c .before .before .before .loop in let w = row-within (a .n) (a .s) (getD (a .places .now) (l .k) 0) (a .cells .now) (q .0 .0) (place-below (a .s) (a .m) (l .k) (a .places .now) (q .0 .2) (c .before .before .loop-test .taken) (q .0 .1)) in omega arith)
+    -- put-cells-requires
+    (λ c κs. let a = c .before .before .before .before .before .before .before .before .args in let q = c .before .before .before .before .before .before .before .before .pre in let l = c .before .before .before .before .loop in let w = row-within (a .n) (a .s) (getD (a .places .now) (l .k) 0) (a .cells .now) (q .0 .0) (place-below (a .s) (a .m) (l .k) (a .places .now) (q .0 .2) (c .before .before .before .loop-test .taken) (q .0 .1)) in let e = ap length (part-row (a .n) (getD (a .places .now) (l .k) 0) (a .cells .now)) ∙ row-length (a .n) (getD (a .places .now) (l .k) 0) (a .cells .now) w in omega (arith, e, row-end (a .n) (a .m) (l .k) (c .before .before .before .loop-test .taken)))
+    -- mul-at
+    (λ c. let a = c .before .before .before .before .before .before .before .before .before .before .before .args in omega (arith, row-end (a .n) (a .m) (c .before .before .before .before .before .before .before .loop .k) (c .before .before .before .before .before .before .loop-test .taken)))
+    -- add-at
+    (λ c. let a = c .before .before .before .before .before .before .before .before .before .before .before .args in omega (arith, row-end (a .n) (a .m) (c .before .before .before .before .before .before .before .loop .k) (c .before .before .before .before .before .before .loop-test .taken)))
+    (λ c. search needs)
+    (λ c. search needs)
+    -- loop-again
+    (λ c. let a = c .before .before .before .before .before .before .before .before .before .before .before .args in let q = c .before .before .before .before .before .before .before .before .before .before .before .pre in let l = c .before .before .before .before .before .before .before .loop in let r = getD (a .places .now) (l .k) 0 in let t = c .before .before .before .before .before .before .loop-test .taken in (omega arith, c .before .before .put-cells .kept .0 ∙ l .inv .1, omega (arith, next-rows (a .n) (l .k)), c .before .before .put-cells .ensures ∙ rw (l .inv .3, l .inv .2, part-row (a .n) r (a .cells .now)) (spread-next (a .n) (a .s) (a .cells .now) (q .0 .0) (a .out .now) (a .places .now) (a .m) (l .k) (q .0 .2) t (q .0 .1))))
+    -- same-length
+    (λ c. c .before .loop .inv .1)
+    -- returns
+    (λ c. let a = c .before .before .before .before .before .args in let l = c .before .loop in let e : l .k ≡ a .m = omega arith in l .inv .3 ∙ rw e))

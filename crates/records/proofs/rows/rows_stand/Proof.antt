@@ -1,51 +1,22 @@
+-- `rows_stand` meets its contract: the first i monomials stand.
+use native.Mathlib.Omega.{arith}
+use mathlib.Core.Path.{_≡_, refl, sym, ap, _∙_}
+use Prim.Native.Nat.{_+_, _-_, _≤_}
+use lib.ListN.{drop}
+use borrow.Author.Tests.{not-true, not-false}
+use Rattle.laws.specs.Ideal.{listed}
+use Rattle.records.specs.Rows.{stands}
+use Rattle.records.proofs.Cells.{listed-end}
+use Rattle.records.proofs.Standing.{stands-low, stands-divided, stands-next}
+use borrow.Author.Needs.{needs}
 use Rattle.records.proofs.rows.rows_stand.Statement.{statement}
 use Rattle.records.proofs.rows.rows_stand.Tie as tie
-use Rattle.records.proofs.rows.rows_stand.Reads as reads
-use Rattle.records.proofs.rows.rows_stand.Lts as lts
-use Rattle.records.proofs.rows.above_next.Reads as above-next-reads
-use Rattle.records.proofs.rows.divided_later.Reads as divided-later-reads
 
 abbrev Inv-loop : tie.InvT-loop
-Inv-loop n m cells i₀ i = ?
+Inv-loop n m cells i₀ i = (i ≤ m) × (stands (listed n m cells) ≡ stands (drop i (listed n m cells)))
 
 abbrev μ-loop : tie.MeasureT-loop
-μ-loop n m cells i₀ i = ?
-
--- src/rows.rt:59:5
-loop-holds : tie.Need-loop-holds Inv-loop μ-loop
-loop-holds c = ?
-
--- src/rows.rt:60:13
-above-next-requires : tie.Need-above-next-requires Inv-loop μ-loop
-above-next-requires c κs = ?
-
--- src/rows.rt:61:13
-returns : tie.Need-returns Inv-loop μ-loop
-returns c = ?
-
--- src/rows.rt:63:12
-divided-later-requires : tie.Need-divided-later-requires Inv-loop μ-loop
-divided-later-requires c κs = ?
-
--- src/rows.rt:64:13
-returns-2 : tie.Need-returns-2 Inv-loop μ-loop
-returns-2 c = ?
-
--- src/rows.rt:66:9
-add-i : tie.Need-add-i Inv-loop μ-loop
-add-i c = ?
-
--- src/rows.rt:59:5
-loop-less : tie.Need-loop-less Inv-loop μ-loop
-loop-less c = ?
-
--- src/rows.rt:59:5
-loop-again : tie.Need-loop-again Inv-loop μ-loop
-loop-again c = ?
-
--- src/rows.rt:53:1
-returns-3 : tie.Need-returns-3 Inv-loop μ-loop
-returns-3 c = ?
+μ-loop n m cells i₀ i = m - i
 
 pub rows-stand-spec : {M : Type 1} → statement M
 rows-stand-spec =
@@ -53,12 +24,19 @@ rows-stand-spec =
     (tie.spec
     Inv-loop
     μ-loop
-    loop-holds
-    above-next-requires
-    returns
-    divided-later-requires
-    returns-2
-    add-i
-    loop-less
-    loop-again
-    returns-3)
+    -- loop-holds
+    (λ c. (omega arith, refl))
+    -- above-next-requires
+    (λ c κs. (c .before .before .before .pre .0, (c .before .before .before .pre .1, c .loop-test .taken)))
+    -- returns
+    (λ c. let a = c .before .before .before .before .before .args in let l = c .before .before .before .loop in sym (l .inv .1 ∙ stands-low (a .n) (a .m) (l .i) (a .cells .now) (c .before .before .loop-test .taken) (sym (c .before .above-next .ensures) ∙ not-true (c .before .above-next .result) (c .if1 .taken))))
+    -- divided-later-requires
+    (λ c κs. (c .before .before .before .before .before .pre .0, (c .before .before .before .before .before .pre .1, c .before .before .loop-test .taken)))
+    -- returns-2
+    (λ c. let a = c .before .before .before .before .before .before .before .args in let l = c .before .before .before .before .before .loop in sym (l .inv .1 ∙ stands-divided (a .n) (a .m) (l .i) (a .cells .now) (c .before .before .before .before .loop-test .taken) (sym (c .before .before .before .above-next .ensures) ∙ not-false (c .before .before .before .above-next .result) (c .before .before .if1 .left)) (sym (c .before .divided-later .ensures) ∙ c .if2 .taken)))
+    (λ c. search needs)
+    (λ c. search needs)
+    -- loop-again
+    (λ c. let a = c .before .before .before .before .before .before .before .args in let l = c .before .before .before .before .before .loop in (omega arith, l .inv .1 ∙ stands-next (a .n) (a .m) (l .i) (a .cells .now) (c .before .before .before .before .loop-test .taken) (sym (c .before .before .before .above-next .ensures) ∙ not-false (c .before .before .before .above-next .result) (c .before .before .if1 .left)) (sym (c .before .divided-later .ensures) ∙ c .if2 .left)))
+    -- returns-3
+    (λ c. let a = c .before .before .before .args in let l = c .before .loop in rw (l .inv .1, listed-end (a .n) (a .m) (l .i) (a .cells .now) (c .loop-test .left))))
