@@ -1,5 +1,6 @@
 -- Monomials in cells, in the words of the crate laws.
 --   row-end, next-rows, row-within, row-length   the cells of one monomial
+--   part-end                       its exponent bytes in a record
 --   area                           how many exponents a record has at most
 --   part-row                       the part of the cells that is lent for it
 --   compared, unrefused            what the comparison of two answers
@@ -13,7 +14,7 @@ use mathlib.Core.Bool.{Bool, true, false, not, _&&_}
 use mathlib.Core.List.{List, [], _∷_}
 use Prim.Native.Nat.{ℕ, zero, suc, _+_, _*_, _-_, _≤_, _<_, Ordering, Ordering·lt, Ordering·eq, Ordering·gt}
 use native.Mathlib.Omega.{arith}
-use native.Mathlib.Nat.{mul-le-mul, mul-le-mul-right, suc-mul}
+use native.Mathlib.Nat.{mul-assoc, mul-comm, mul-le-mul, mul-le-mul-right, suc-mul}
 use native.Mathlib.Numerals.{add-one}
 use lib.ListN.{length, getD, take, drop, length-take, length-drop, drop-of-length-le}
 use lib.Seq.{drop-cons}
@@ -46,6 +47,10 @@ next-rows n k = rw (add-one k) (suc-mul k n)
 -- and so within the cells
 pub row-within : (n s i : ℕ) (cells : List ℕ) → length cells ≡ s * n → i < s → i * n + n ≤ length cells
 row-within n s i cells e h = omega (arith, row-end n s i h)
+
+-- the exponent bytes of one monomial end within those of all
+pub part-end : (n m k : ℕ) → k < m → 2 * n * k + 2 * n ≤ 2 * (m * n)
+part-end n m k h = omega (arith, mul-assoc 2 n k, mul-comm n k, row-end n m k h)
 
 -- all exponents of a record
 pub area : (m n : ℕ) → m ≤ 60 → n ≤ 255 → m * n ≤ 15300

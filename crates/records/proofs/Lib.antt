@@ -2,3 +2,4 @@
 pub mod Cells
 pub mod Choosing
 pub mod Standing
+pub mod Answers
