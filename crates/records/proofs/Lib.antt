@@ -3,3 +3,4 @@ pub mod Cells
 pub mod Choosing
 pub mod Standing
 pub mod Answers
+pub mod DeterminedRecords

@@ -110,7 +110,8 @@ pub fn place(rec: &[u8], k: usize) -> &[u8]
     if !is_record(rec) {
         return &rec[0..0];
     }
-    if wide(rec[6]) <= k {
+    let m = wide(rec[6]);
+    if m <= k {
         return &rec[0..0];
     }
     let n = wide(rec[5]);

@@ -117,14 +117,14 @@ pub(crate) fn is_minimal(n: usize, s: usize, cells: &[u16], i: usize) -> bool
     true
 }
 
-// Whether monomial j divides monomial i and is not divided by it.
-fn properly_divides(n: usize, cells: &[u16], j: usize, i: usize) -> bool
+// Whether monomial i divides monomial j and is not divided by it.
+fn properly_divides(n: usize, cells: &[u16], i: usize, j: usize) -> bool
     requires { do ⌜ n ≤ (← ⟦MAX_WIDTH⟧) ⌝ }
-    requires { ⌜ (j * n + n ≤ length (now cells)) × (i * n + n ≤ length (now cells)) ⌝ }
-    ensures { λ r. ⌜ r ≡ proper (row n (now (cells .entry)) j) (row n (now (cells .entry)) i) ⌝ }
+    requires { ⌜ (i * n + n ≤ length (now cells)) × (j * n + n ≤ length (now cells)) ⌝ }
+    ensures { λ r. ⌜ r ≡ proper (row n (now (cells .entry)) i) (row n (now (cells .entry)) j) ⌝ }
 {
-    if row_divides(n, cells, j, i) {
-        return !row_divides(n, cells, i, j);
+    if row_divides(n, cells, i, j) {
+        return !row_divides(n, cells, j, i);
     }
     false
 }
