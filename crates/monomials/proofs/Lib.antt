@@ -1,2 +1,3 @@
 -- The proofs of layer 1.
-mod Cells
+mod Checks
+mod Pairs

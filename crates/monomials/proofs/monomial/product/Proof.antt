@@ -1,11 +1,16 @@
--- `product` meets its contract, return by return. Rests on `all-fits` and `zip-product`.
+-- `product` meets its contract. Rests on `all-fits` and `zip-product`.
 use borrow.Author.Needs.{needs}
-use mathlib.Core.Path.{_≡_, sym, _∙_}
-use mathlib.Core.Bool.{true, false}
-use borrow.Author.Tests.{lt-ltb, le-ltb, eq-eqb, ne-eqb, not-true, not-false}
+use mathlib.Core.Path.{_≡_, sym, ap, _∙_}
+use mathlib.Core.Logic.{⊎-elim}
+use mathlib.Core.Bool.{true, false, not, false≢true}
+use borrow.Author.Tests.{not-true, not-false}
 use Rattle.laws.specs.Monomial.{product}
-use Rattle.monomials.specs.Monomial.{atMost}
-use Rattle.monomials.proofs.Cells.{all-fits, zip-product}
+use Rattle.monomials.specs.Cells.{passed, combinedOf, zipCells}
+use Rattle.monomials.specs.declared.cells.Combine.the-variants.{Sum}
+use Rattle.monomials.specs.declared.refusal.Refusal.the-variants.{Exponent}
+use Rattle.monomials.specs.Monomial.{atMost, writeChecks}
+use Rattle.monomials.proofs.Checks.{write-width, last-refuses, last-passes, after-passed}
+use Rattle.monomials.proofs.Pairs.{all-fits, zip-product}
 use Rattle.monomials.proofs.monomial.product.Statement.{statement}
 use Rattle.monomials.proofs.monomial.product.Tie as tie
 
@@ -14,19 +19,12 @@ product-spec =
     tie.close
     (tie.spec
     (λ c κs. search needs)
+    -- all-cells-requires
+    (λ c κs. let a = c .before .before .before .before .before .args .a .now in let b = c .before .before .before .before .before .args .b .now in let out = c .before .before .before .before .before .args .out .now in (write-width 255 a b out (sym (c .before .one-width .ensures) ∙ c .if1 .taken)))
+    (λ c κs. search needs)
     -- returns
-    (λ c. let h = lt-ltb _ _ (c .before .if1 .taken) in (simp (c .refused .ensures, h), simp h))
-    (λ c κs. search needs)
-    -- returns-2
-    (λ c. let h = le-ltb _ _ (c .before .before .if1 .left) in let k = ne-eqb _ _ (c .before .if2 .taken) in (simp (c .refused2 .ensures, h, k), simp (h, k)))
-    (λ c κs. search needs)
-    -- returns-3
-    (λ c. let h = le-ltb _ _ (c .before .before .before .if1 .left) in let k = eq-eqb _ _ (c .before .before .if2 .left) in let l = ne-eqb _ _ (c .before .if3 .taken) in (simp (c .refused3 .ensures, h, k, l), simp (h, k, l)))
-    (λ c κs. search needs)
-    (λ c κs. search needs)
-    -- returns-4
-    (λ c. let a = c .before .before .before .before .before .before .before .before .before .args .a .now in let b = c .before .before .before .before .before .before .before .before .before .args .b .now in let h = le-ltb _ _ (c .before .before .before .before .before .if1 .left) in let k = eq-eqb _ _ (c .before .before .before .before .if2 .left) in let l = eq-eqb _ _ (c .before .before .before .if3 .left) in let bad : atMost 65535 (product a b) ≡ false = sym (c .before .before .all-cells .ensures ∙ all-fits 65535 a b (c .before .before .before .before .if2 .left)) ∙ not-true _ (c .before .if4 .taken) in (simp (c .refused4 .ensures, h, k, l, bad), simp (h, k, l, bad)))
+    (λ c. let a = c .before .before .before .before .before .before .before .before .args .a .now in let b = c .before .before .before .before .before .before .before .before .args .b .now in let out = c .before .before .before .before .before .before .before .before .args .out .now in let checks = writeChecks 255 a b out in let wide : passed checks ≡ true = sym (c .before .before .before .before .one-width .ensures) ∙ c .before .before .before .if1 .taken in let bad : atMost 65535 (product a b) ≡ false = sym (c .before .before .all-cells .ensures ∙ all-fits 65535 a b ((write-width 255 a b out wide))) ∙ not-true _ (c .before .if2 .taken) in let e = last-refuses checks (not (atMost 65535 (product a b))) Exponent wide (ap not bad) in (rw (c .refused .ensures, e), rw e))
     (λ c κs. search needs)
     (λ c. search needs)
-    -- returns-5
-    (λ c. let a = c .before .before .before .before .before .before .before .before .before .before .before .before .args .a .now in let b = c .before .before .before .before .before .before .before .before .before .before .before .before .args .b .now in let h = le-ltb _ _ (c .before .before .before .before .before .before .before .before .if1 .left) in let k = eq-eqb _ _ (c .before .before .before .before .before .before .before .if2 .left) in let l = eq-eqb _ _ (c .before .before .before .before .before .before .if3 .left) in let ok : atMost 65535 (product a b) ≡ true = sym (c .before .before .before .before .before .all-cells .ensures ∙ all-fits 65535 a b (c .before .before .before .before .before .before .before .if2 .left)) ∙ not-false _ (c .before .before .before .before .if4 .left) in (simp (h, k, l, ok), simp (h, k, l, ok) (c .before .before .write-cells .ensures ∙ zip-product a b (c .before .before .before .before .before .before .before .if2 .left) ok))))
+    -- returns-2
+    (λ c. let a = c .before .before .before .before .before .before .before .before .before .args .a .now in let b = c .before .before .before .before .before .before .before .before .before .args .b .now in let out = c .before .before .before .before .before .before .before .before .before .args .out .now in let checks = writeChecks 255 a b out in let ok : passed checks ≡ true → atMost 65535 (product a b) ≡ true = ⊎-elim (λ w h. sym (w .1 .ensures ∙ all-fits 65535 a b ((write-width 255 a b out h))) ∙ not-false _ (w .2 .left)) (λ w h. absurd (false≢true (sym (w .left) ∙ c .before .before .before .before .before .one-width .ensures ∙ h))) (c .before .before .before .before .if1 .came) in let e = last-passes checks (not (atMost 65535 (product a b))) Exponent (λ h. ap not (ok h)) in (rw e (c .before .before .write-pair .ensures .0), rw e (c .before .before .write-pair .ensures .1 ∙ after-passed checks (zipCells (combinedOf Sum) a b) (product a b) out (λ h. zip-product a b (write-width 255 a b out h) (ok h))))))

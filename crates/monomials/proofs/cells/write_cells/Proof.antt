@@ -7,9 +7,9 @@ use Prim.Native.Nat.{_-_, _≤_}
 use lib.ListN.{length, drop, take, length-set}
 use Rattle.laws.proofs.Lists.{written-next, written-all}
 use Rattle.monomials.specs.Cells.{combinedOf, zipCells}
-use Rattle.monomials.proofs.Cells.{zip-length, zip-cell}
-use Rattle.monomials.proofs.monomial.write_cells.Statement.{statement}
-use Rattle.monomials.proofs.monomial.write_cells.Tie as tie
+use Rattle.monomials.proofs.Pairs.{zip-length, zip-cell}
+use Rattle.monomials.proofs.cells.write_cells.Statement.{statement}
+use Rattle.monomials.proofs.cells.write_cells.Tie as tie
 
 abbrev Inv-loop : tie.InvT-loop
 Inv-loop op a b out₀ i₀ out i = (i ≤ length a) × (length out ≡ length out₀) × (out ≡ take i (zipCells (combinedOf op) a b) ++ drop i out₀)

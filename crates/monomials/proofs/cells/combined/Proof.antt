@@ -1,8 +1,8 @@
 -- `combined` meets its contract, case by case.
 use borrow.Author.Needs.{needs}
 use native.Mathlib.Omega.{arith}
-use Rattle.monomials.proofs.monomial.combined.Statement.{statement}
-use Rattle.monomials.proofs.monomial.combined.Tie as tie
+use Rattle.monomials.proofs.cells.combined.Statement.{statement}
+use Rattle.monomials.proofs.cells.combined.Tie as tie
 
 pub combined-spec : {M : Type 1} → statement M
 combined-spec =

@@ -6,9 +6,9 @@ use Prim.Native.Nat.{_-_, _≤_}
 use lib.ListN.{length, drop}
 use borrow.Author.Tests.{not-true, not-false}
 use Rattle.monomials.specs.Cells.{passesOf, allCells}
-use Rattle.monomials.proofs.Cells.{all-pass, all-stop, all-end}
-use Rattle.monomials.proofs.monomial.all_cells.Statement.{statement}
-use Rattle.monomials.proofs.monomial.all_cells.Tie as tie
+use Rattle.monomials.proofs.Pairs.{all-pass, all-stop, all-end}
+use Rattle.monomials.proofs.cells.all_cells.Statement.{statement}
+use Rattle.monomials.proofs.cells.all_cells.Tie as tie
 
 abbrev Inv-loop : tie.InvT-loop
 Inv-loop test a b i₀ i = (i ≤ length a) × (allCells (passesOf 65535 test) a b ≡ allCells (passesOf 65535 test) (drop i a) (drop i b))

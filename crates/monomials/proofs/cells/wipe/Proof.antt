@@ -6,8 +6,8 @@ use mathlib.Core.List.{_++_}
 use Prim.Native.Nat.{ℕ, _-_, _≤_}
 use lib.ListN.{length, drop, take, replicate, length-set, length-replicate, getD-replicate}
 use Rattle.laws.proofs.Lists.{written-next, written-all}
-use Rattle.monomials.proofs.monomial.wipe.Statement.{statement}
-use Rattle.monomials.proofs.monomial.wipe.Tie as tie
+use Rattle.monomials.proofs.cells.wipe.Statement.{statement}
+use Rattle.monomials.proofs.cells.wipe.Tie as tie
 
 abbrev Inv-loop : tie.InvT-loop
 Inv-loop out₀ i₀ out i = (i ≤ length out₀) × (length out ≡ length out₀) × (out ≡ take i (replicate (length out₀) 0) ++ drop i out₀)

@@ -1,8 +1,8 @@
 -- `passes` meets its contract, test by test.
 use borrow.Author.Needs.{needs}
 use borrow.Author.Tests.{eq-eqb, ne-eqb}
-use Rattle.monomials.proofs.monomial.passes.Statement.{statement}
-use Rattle.monomials.proofs.monomial.passes.Tie as tie
+use Rattle.monomials.proofs.cells.passes.Statement.{statement}
+use Rattle.monomials.proofs.cells.passes.Tie as tie
 
 pub passes-spec : {M : Type 1} → statement M
 passes-spec =

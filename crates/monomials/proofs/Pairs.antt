@@ -16,10 +16,10 @@ use lib.ListN.{length, getD, drop, drop-of-length-le}
 use Rattle.laws.specs.Monomial.{divides, product, quotient, lcm, gcd, coprime}
 use Rattle.laws.proofs.Lists.{drop-next}
 use Rattle.laws.proofs.Monomial.{and-right, head-le, cons-eq}
-use Rattle.monomials.specs.Cells.{orderOf, passesOf, combinedOf, allCells, zipCells}
-use Rattle.monomials.specs.Monomial.{atMost}
-use Rattle.monomials.specs.declared.monomial.Test.the-variants.{AtMost, Apart, SumFits}
-use Rattle.monomials.specs.declared.monomial.Combine.the-variants.{Sum, Difference, Greater, Smaller}
+use Rattle.monomials.specs.Cells.{passesOf, combinedOf, allCells, zipCells}
+use Rattle.monomials.specs.Monomial.{orderOf, atMost}
+use Rattle.monomials.specs.declared.cells.Test.the-variants.{AtMost, Apart, SumFits}
+use Rattle.monomials.specs.declared.cells.Combine.the-variants.{Sum, Difference, Greater, Smaller}
 
 pub order-same : (o p : Ordering) → orderOf o ≡ orderOf p → o ≡ p
 order-same Ordering·lt Ordering·lt e = refl
