@@ -1,4 +1,5 @@
 -- What a call's checks decide.
+--   maxWidth, maxExponent                 the code's limits
 --   pair-width, write-width               checks 1 and 3 of two monomials passed: they have one width
 --   last-test, last-refuses, last-passes  one check more, after the others
 --   after-passed, test-passed             an output and an answer need be known only where the checks passed
@@ -16,6 +17,12 @@ use Rattle.monomials.specs.Refusal.{Check, refusal, after}
 use Rattle.monomials.specs.Monomial.{differ, pairChecks, writeChecks, testAnswer}
 use Rattle.monomials.specs.Cells.{passed}
 use Rattle.monomials.specs.declared.refusal.Refusal.{Refusal}
+
+abbrev pub maxWidth : ℕ
+maxWidth = 255
+
+abbrev pub maxExponent : ℕ
+maxExponent = 65535
 
 not-not : (t : Bool) → not (not t) ≡ t
 not-not true = refl

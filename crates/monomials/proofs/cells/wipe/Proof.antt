@@ -28,7 +28,17 @@ wipe-spec =
     (λ c. search needs)
     (λ c. search needs)
     -- loop-again
-    (λ c. let d = c .before .before .args .out .now in let i = c .before .loop .i in let n = length d in (omega arith, simp length-set (omega arith), rw (c .before .loop .inv .2) (written-next (replicate n 0) d i 0 (omega (arith, length-replicate {A = ℕ} n 0)) (omega arith) (getD-replicate n i 0 0 (omega arith)))))
+    (λ c.
+    let p2 = c .before .before in
+    let d = p2 .args .out .now in
+    let i = c .before .loop .i in
+    let n = length d in
+    (omega arith, simp length-set (omega arith), rw (c .before .loop .inv .2) (written-next (replicate n 0) d i 0 (omega (arith, length-replicate {A = ℕ} n 0)) (omega arith) (getD-replicate n i 0 0 (omega arith)))))
     (λ c. search needs)
     -- returns
-    (λ c. let d = c .before .before .args .out .now in let i = c .before .loop .i in let n = length d in c .before .loop .inv .2 ∙ written-all (replicate n 0) d i (length-replicate n 0) (omega arith)))
+    (λ c.
+    let p2 = c .before .before in
+    let d = p2 .args .out .now in
+    let i = c .before .loop .i in
+    let n = length d in
+    c .before .loop .inv .2 ∙ written-all (replicate n 0) d i (length-replicate n 0) (omega arith)))

@@ -35,7 +35,22 @@ write-cells-spec =
     (λ c. search needs)
     (λ c. search needs)
     -- loop-again
-    (λ c. let a = c .before .before .before .before .before .before .before .before .args .a .now in let b = c .before .before .before .before .before .before .before .before .args .b .now in let i = c .before .before .before .before .loop .i in let d = c .before .before .before .before .before .before .before .before .args .out .now in let f = combinedOf (c .before .before .before .before .before .before .before .before .args .op) in (omega arith, simp length-set (omega arith), rw (c .before .before .before .before .loop .inv .2) (written-next (zipCells f a b) d i (c .combined .result) (omega (arith, zip-length f a b (omega arith))) (omega arith) (zip-cell f a b i (omega arith) (omega arith) ∙ sym (c .combined .ensures)))))
+    (λ c.
+    let p4 = c .before .before .before .before in
+    let p8 = p4 .before .before .before .before in
+    let a = p8 .args .a .now in
+    let b = p8 .args .b .now in
+    let i = p4 .loop .i in
+    let d = p8 .args .out .now in
+    let f = combinedOf (p8 .args .op) in
+    (omega arith, simp length-set (omega arith), rw (p4 .loop .inv .2) (written-next (zipCells f a b) d i (c .combined .result) (omega (arith, zip-length f a b (omega arith))) (omega arith) (zip-cell f a b i (omega arith) (omega arith) ∙ sym (c .combined .ensures)))))
     (λ c. search needs)
     -- returns
-    (λ c. let a = c .before .before .before .before .before .args .a .now in let b = c .before .before .before .before .before .args .b .now in let i = c .before .loop .i in let d = c .before .before .before .before .before .args .out .now in let f = combinedOf (c .before .before .before .before .before .args .op) in c .before .loop .inv .2 ∙ written-all (zipCells f a b) d i (omega (arith, zip-length f a b (omega arith))) (omega arith)))
+    (λ c.
+    let p5 = c .before .before .before .before .before in
+    let a = p5 .args .a .now in
+    let b = p5 .args .b .now in
+    let i = c .before .loop .i in
+    let d = p5 .args .out .now in
+    let f = combinedOf (p5 .args .op) in
+    c .before .loop .inv .2 ∙ written-all (zipCells f a b) d i (omega (arith, zip-length f a b (omega arith))) (omega arith)))

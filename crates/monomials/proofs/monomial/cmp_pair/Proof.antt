@@ -17,6 +17,12 @@ cmp-pair-spec =
     (λ c. search needs)
     (λ c κs. search needs)
     -- returns-3
-    (λ c. simp (le-ltb _ _ (c .before .before .before .before .if1 .left), eq-eqb _ _ (c .before .before .before .if2 .left), c .before .enum-told .given .1, c .lex-order .ensures))
+    (λ c.
+    let p3 = c .before .before .before in
+    let p4 = p3 .before in
+    simp (le-ltb _ _ (p4 .if1 .left), eq-eqb _ _ (p3 .if2 .left), c .before .enum-told .given .1, c .lex-order .ensures))
     -- returns-4
-    (λ c. simp (le-ltb _ _ (c .before .before .before .before .if1 .left), eq-eqb _ _ (c .before .before .before .if2 .left), c .before .enum-told2 .given .1, c .degrevlex-order .ensures)))
+    (λ c.
+    let p3 = c .before .before .before in
+    let p4 = p3 .before in
+    simp (le-ltb _ _ (p4 .if1 .left), eq-eqb _ _ (p3 .if2 .left), c .before .enum-told2 .given .1, c .degrevlex-order .ensures)))

@@ -18,8 +18,20 @@ degrevlex-order-spec =
     (λ c κs. search needs)
     (λ c. search needs)
     -- returns
-    (λ c. let a = c .before .before .before .before .before .before .before .args .a .now in let b = c .before .before .before .before .before .before .before .args .b .now in rw (order-same (compare (degree a) (degree b)) Ordering·lt (cc)))
+    (λ c.
+    let p7 = c .before .before .before .before .before .before .before in
+    let a = p7 .args .a .now in
+    let b = p7 .args .b .now in
+    rw (order-same (compare (degree a) (degree b)) Ordering·lt (cc)))
     -- returns-2
-    (λ c. let a = c .before .before .before .before .before .before .before .before .args .a .now in let b = c .before .before .before .before .before .before .before .before .args .b .now in rw (order-same (compare (degree a) (degree b)) Ordering·eq (cc), c .revlex-order .ensures))
+    (λ c.
+    let p8 = c .before .before .before .before .before .before .before .before in
+    let a = p8 .args .a .now in
+    let b = p8 .args .b .now in
+    rw (order-same (compare (degree a) (degree b)) Ordering·eq (cc)) (cc))
     -- returns-3
-    (λ c. let a = c .before .before .before .before .before .before .before .args .a .now in let b = c .before .before .before .before .before .before .before .args .b .now in rw (order-same (compare (degree a) (degree b)) Ordering·gt (cc))))
+    (λ c.
+    let p7 = c .before .before .before .before .before .before .before in
+    let a = p7 .args .a .now in
+    let b = p7 .args .b .now in
+    rw (order-same (compare (degree a) (degree b)) Ordering·gt (cc))))

@@ -11,4 +11,9 @@ gcd-spec =
     (λ c κs. search needs)
     (λ c. search needs)
     -- returns
-    (λ c. let a = c .before .before .before .before .before .before .before .args .a .now in let b = c .before .before .before .before .before .before .before .args .b .now in (c .before .before .write-pair .ensures .0, rw (c .before .before .write-pair .ensures .1, zip-gcd a b))))
+    (λ c.
+    let p2 = c .before .before in
+    let p7 = p2 .before .before .before .before .before in
+    let a = p7 .args .a .now in
+    let b = p7 .args .b .now in
+    (p2 .write-pair .ensures .0, rw (p2 .write-pair .ensures .1, zip-gcd a b))))

@@ -1,5 +1,6 @@
 -- `is_coprime` meets its contract. Rests on `all-coprime`.
 use borrow.Author.Needs.{needs}
+use Rattle.monomials.proofs.Checks.{maxExponent}
 use Rattle.monomials.proofs.Pairs.{all-coprime}
 use Rattle.monomials.proofs.monomial.is_coprime.Statement.{statement}
 use Rattle.monomials.proofs.monomial.is_coprime.Tie as tie
@@ -10,4 +11,8 @@ is-coprime-spec =
     (tie.spec
     (λ c κs. search needs)
     -- returns
-    (λ c. let a = c .before .before .before .args .a .now in let b = c .before .before .before .args .b .now in rw (c .test-pair .ensures, all-coprime 65535 a b)))
+    (λ c.
+    let p3 = c .before .before .before in
+    let a = p3 .args .a .now in
+    let b = p3 .args .b .now in
+    rw (c .test-pair .ensures, all-coprime maxExponent a b)))

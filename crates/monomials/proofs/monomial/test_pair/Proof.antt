@@ -14,4 +14,6 @@ test-pair-spec =
     (λ c. simp (le-ltb _ _ (c .before .if1 .left), ne-eqb _ _ (c .if2 .taken)))
     (λ c κs. search needs)
     -- returns-3
-    (λ c. simp (le-ltb _ _ (c .before .before .if1 .left), eq-eqb _ _ (c .before .if2 .left), c .all-cells .ensures)))
+    (λ c.
+    let p2 = c .before .before in
+    simp (le-ltb _ _ (p2 .if1 .left), eq-eqb _ _ (c .before .if2 .left), c .all-cells .ensures)))
