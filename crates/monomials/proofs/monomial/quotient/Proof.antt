@@ -1,5 +1,6 @@
 -- `quotient` meets its contract. Rests on `all-divides` and `zip-quotient`.
 use borrow.Author.Needs.{needs}
+use native.Mathlib.Omega.{arith}
 use mathlib.Core.Path.{_≡_, sym, ap, _∙_}
 use mathlib.Core.Logic.{⊎-elim}
 use mathlib.Core.Bool.{true, false, not, false≢true}
@@ -25,7 +26,7 @@ quotient-spec =
     let a = p5 .args .a .now in
     let b = p5 .args .b .now in
     let out = p5 .args .out .now in
-    sym (write-width maxWidth a b out (sym (c .before .one-width .ensures) ∙ c .if1 .taken)))
+    omega (arith, write-width maxWidth a b out (sym (c .before .one-width .ensures) ∙ c .if1 .taken)))
     (λ c κs. search needs)
     -- returns
     (λ c.
