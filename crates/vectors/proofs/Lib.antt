@@ -1,0 +1,2 @@
+-- The proofs of the reader of test vectors.
+mod Reading
