@@ -7,8 +7,7 @@ use mathlib.Core.Option.{Option, none, some}
 use Prim.Native.Nat.{ℕ}
 use lib.ListN.{getD}
 use Rattle.laws.specs.Mask.{mask}
-use Rattle.monomials.specs.Refusal.{refusal}
-use Rattle.monomials.specs.Monomial.{tooWide}
+use Rattle.monomials.specs.Refusal.{refusal, tooWide}
 use Rattle.monomials.specs.declared.refusal.Refusal.{Refusal}
 use Rattle.monomials.specs.declared.divmask.DivMask.{DivMask}
 use Rattle.monomials.specs.declared.divmask.MaskOutcome.{MaskOutcome}

@@ -1,7 +1,6 @@
 -- The calls on monomials: each one's checks in their order, its answer, and what its output then holds. W is the greatest width, E the
 -- greatest exponent.
 --   orderOf o         == a comparison's outcome as the code's Order
---   tooWide W n       == check 1: the width n is above W
 --   differ a n        == check 3: a has another width than n
 --   atMost E m        == each exponent of m is at most E
 --   ..Checks          == the order of checks of a call
@@ -12,13 +11,13 @@ use mathlib.Core.Bool.{Bool, true, false, not, _&&_}
 use mathlib.Core.List.{List, [], _∷_, _++_}
 use mathlib.Core.Option.{Option, none, some}
 use Prim.Native.Nat.{ℕ, Ordering, Ordering·lt, Ordering·eq, Ordering·gt}
-use lib.Dec.{leb, ltb, eqb}
+use lib.Dec.{leb, eqb}
 use lib.ListN.{length}
 use Rattle.laws.specs.Monomial.{degree, exponent, divides, product, quotient, lcm, gcd, coprime, power}
 use Rattle.laws.specs.Order.{lex, degrevlex}
-use Rattle.monomials.specs.Refusal.{Check, refusal, after}
+use Rattle.monomials.specs.Refusal.{Check, refusal, after, tooWide}
 use Rattle.monomials.specs.declared.refusal.Refusal.{Refusal}
-use Rattle.monomials.specs.declared.refusal.Refusal.the-variants.{Width, Cells, Place, Exponent, Division}
+use Rattle.monomials.specs.declared.refusal.Refusal.the-variants.{Cells, Place, Exponent, Division}
 use Rattle.monomials.specs.declared.monomial.NumberOutcome.{NumberOutcome}
 use Rattle.monomials.specs.declared.monomial.NumberAnswer.{NumberAnswer}
 use Rattle.monomials.specs.declared.monomial.WriteOutcome.{WriteOutcome}
@@ -54,9 +53,6 @@ orderAnswer none o = record { outcome = OrderOutcome.Value (orderOf o) }
 orderAnswer (some r) o = record { outcome = OrderOutcome.Refused r }
 
 -- checks
-
-abbrev pub tooWide : ℕ → ℕ → Check
-tooWide W n = (ltb W n, Width)
 
 abbrev pub differ : List ℕ → ℕ → Check
 differ a n = (not (eqb (length a) n), Cells)

@@ -1,0 +1,2 @@
+//! Stand-in for a type that `repr.rs` names and nothing here uses.
+pub struct PolyRing;
