@@ -67,13 +67,19 @@ fn is_power_right(text: &[u8], at: usize) -> bool {
     let mut room = [0u16; 300];
     prepare(&mut room);
     let k = lent(text, x.next, &room);
-    let answer = monomials::monomial::power(
+    is_power_written(
         n.magnitude as usize,
         v.magnitude as usize,
         (x.magnitude % 65536) as u16,
         &mut room[0..k],
-    );
-    is_written(answer, text, size.next, &room[0..k])
+        text,
+        size.next,
+    )
+}
+
+fn is_power_written(n: usize, v: usize, x: u16, out: &mut [u16], text: &[u8], at: usize) -> bool {
+    let answer = monomials::monomial::power(n, v, x, out);
+    is_written(answer, text, at, out)
 }
 
 fn is_write_right(code: u64, text: &[u8], at: usize) -> bool {
@@ -87,8 +93,19 @@ fn is_write_right(code: u64, text: &[u8], at: usize) -> bool {
     let n = first.count;
     let m = second.count;
     let k = lent(text, second.next, &room);
-    let answer = write(code, &a[0..n], &b[0..m], &mut room[0..k]);
-    is_written(answer, text, size.next, &room[0..k])
+    is_pair_written(code, &a[0..n], &b[0..m], &mut room[0..k], text, size.next)
+}
+
+fn is_pair_written(
+    code: u64,
+    a: &[u16],
+    b: &[u16],
+    out: &mut [u16],
+    text: &[u8],
+    at: usize,
+) -> bool {
+    let answer = write(code, a, b, out);
+    is_written(answer, text, at, out)
 }
 
 fn write(code: u64, a: &[u16], b: &[u16], out: &mut [u16]) -> WriteAnswer {

@@ -14,24 +14,33 @@ fn main() {
     io::write_all(1, b" wrong\n");
 }
 
-// Compares every case, and counts those of each call under its code; a code that no call has counts as wrong. How many are wrong.
+// Compares every case, and counts those of each call under its code. How many are wrong.
 fn replay(text: &[u8], counts: &mut [u64]) -> u64 {
     let mut wrong: u64 = 0;
     let mut at: usize = 0;
     while at < text.len() {
-        if text[at] != b'#' {
-            let code = vectors::integer_at(text, at);
-            let k = code.magnitude as usize;
-            if k < counts.len() {
-                counts[k] = std::num::wrapping_add_u64(counts[k], 1);
-            }
-            if !is_right(code.magnitude, text, code.next) {
-                wrong = std::num::wrapping_add_u64(wrong, 1);
-            }
+        if is_wrong(text, at, counts) {
+            wrong = std::num::wrapping_add_u64(wrong, 1);
         }
         at = vectors::line_after(text, at);
     }
     wrong
+}
+
+// Whether the line at `at` is a case that is wrong; a comment has no code, and a code that no call has is wrong.
+fn is_wrong(text: &[u8], at: usize, counts: &mut [u64]) -> bool {
+    let code = vectors::integer_at(text, at);
+    if code.magnitude == 0 {
+        return false;
+    }
+    count(counts, code.magnitude as usize);
+    !is_right(code.magnitude, text, code.next)
+}
+
+fn count(counts: &mut [u64], code: usize) {
+    if code < counts.len() {
+        counts[code] = std::num::wrapping_add_u64(counts[code], 1);
+    }
 }
 
 fn say_counts(counts: &[u64]) {

@@ -12,11 +12,11 @@ pub struct Cells {
 pub fn read_list(text: &[u8], at: usize, cells: &mut [u16]) -> Cells
     ensures { λ r. ⌜ r .count ≤ length (now (cells .exit)) ⌝ }
 {
-    let length = vectors::integer_at(text, at);
-    let mut next = length.next;
+    let size = vectors::integer_at(text, at);
+    let mut next = size.next;
     let mut i: usize = 0;
     while i < cells.len() {
-        if length.magnitude <= i as u64 {
+        if size.magnitude <= i as u64 {
             return Cells { count: i, next };
         }
         let x = vectors::integer_at(text, next);
@@ -66,11 +66,11 @@ pub fn is_untouched(room: &[u16]) -> bool {
 
 // Whether the list at `at` is what the cells hold.
 pub fn is_list(text: &[u8], at: usize, cells: &[u16]) -> bool {
-    let length = vectors::integer_at(text, at);
-    if length.magnitude != cells.len() as u64 {
+    let size = vectors::integer_at(text, at);
+    if size.magnitude != cells.len() as u64 {
         return false;
     }
-    let mut next = length.next;
+    let mut next = size.next;
     let mut j: usize = 0;
     while j < cells.len() {
         let x = vectors::integer_at(text, next);
