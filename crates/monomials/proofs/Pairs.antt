@@ -2,7 +2,7 @@
 --   order-same                               equal orders in the code are equal comparisons
 --   all-pass, all-stop, all-end              a test of each variable, from variable i on
 --   zip-length, zip-cell                     what is made of two monomials: its width, one variable
---   all-divides, all-coprime, all-fits       the three tests, on equal widths
+--   all-divides, all-divisor, all-coprime, all-fits  the four tests, on equal widths
 --   zip-product, zip-quotient, zip-lcm, zip-gcd  the four monomials that are written, on equal widths
 -- Assumes nothing.
 use mathlib.Core.Path.{_≡_, refl, sym, ap, ap₂, _∙_}
@@ -18,7 +18,7 @@ use Rattle.laws.proofs.Lists.{drop-next}
 use Rattle.laws.proofs.Monomial.{and-right, head-le, cons-eq}
 use Rattle.monomials.specs.Cells.{passesOf, combinedOf, allCells, zipCells}
 use Rattle.monomials.specs.Monomial.{orderOf, atMost}
-use Rattle.monomials.specs.declared.cells.Test.the-variants.{AtMost, Apart, SumFits}
+use Rattle.monomials.specs.declared.cells.Test.the-variants.{AtMost, AtLeast, Apart, SumFits}
 use Rattle.monomials.specs.declared.cells.Combine.the-variants.{Sum, Difference, Greater, Smaller}
 
 pub order-same : (o p : Ordering) → orderOf o ≡ orderOf p → o ≡ p
@@ -69,6 +69,12 @@ pub all-divides : (E : ℕ) (a b : List ℕ) → length b ≡ length a → allCe
 all-divides E [] b e = refl
 all-divides E (x ∷ a) [] e = absurd (omega arith)
 all-divides E (x ∷ a) (y ∷ b) e = ap (λ (t : Bool). leb x y && t) (all-divides E a b (omega arith))
+
+pub all-divisor : (E : ℕ) (a b : List ℕ) → length b ≡ length a → allCells (passesOf E AtLeast) a b ≡ divides b a
+all-divisor E [] [] e = refl
+all-divisor E [] (y ∷ b) e = absurd (omega arith)
+all-divisor E (x ∷ a) [] e = absurd (omega arith)
+all-divisor E (x ∷ a) (y ∷ b) e = ap (λ (t : Bool). leb y x && t) (all-divisor E a b (omega arith))
 
 pub all-coprime : (E : ℕ) (a b : List ℕ) → allCells (passesOf E Apart) a b ≡ coprime a b
 all-coprime E [] b = refl

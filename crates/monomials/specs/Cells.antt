@@ -6,6 +6,8 @@
 --   combinedOf op x y == what op makes of them
 --   allCells p a b   == p passes at each variable
 --   zipCells f a b   == f at each variable
+--   testedChecks ..  == checks 1 and 3 of a call that writes, then the test of each variable, with the refusal r
+--   testedAnswer .., testedCells .. == its answer, and its output after the call
 -- Assumes nothing.
 use mathlib.Core.Bool.{Bool, true, false, not, _&&_, _||_}
 use mathlib.Core.List.{List, [], _∷_, _++_}
@@ -13,12 +15,14 @@ use Prim.Native.Nat.{ℕ, _+_, _-_, _%_, max, min, Ordering}
 use lib.Dec.{leb, eqb}
 use lib.ListN.{length}
 use Rattle.laws.specs.Order.{lex, degrevlex}
-use Rattle.monomials.specs.Refusal.{Check}
-use Rattle.monomials.specs.Monomial.{pairChecks}
+use Rattle.monomials.specs.Refusal.{Check, refusal, after}
+use Rattle.monomials.specs.Monomial.{pairChecks, writeChecks, writeAnswer}
+use Rattle.monomials.specs.declared.refusal.Refusal.{Refusal}
 use Rattle.monomials.specs.declared.refusal.Refusal.the-variants.{Cells}
+use Rattle.monomials.specs.declared.monomial.WriteAnswer.{WriteAnswer}
 use Rattle.monomials.specs.declared.monomial.MonomialOrder.{MonomialOrder}
 use Rattle.monomials.specs.declared.cells.Test.{Test}
-use Rattle.monomials.specs.declared.cells.Test.the-variants.{AtMost, Apart, SumFits}
+use Rattle.monomials.specs.declared.cells.Test.the-variants.{AtMost, AtLeast, Apart, SumFits}
 use Rattle.monomials.specs.declared.cells.Combine.{Combine}
 
 abbrev pub passed : List Check → Bool
@@ -34,6 +38,7 @@ comparedBy MonomialOrder.DegRevLex a b = degrevlex a b
 
 abbrev pub passesOf : ℕ → Test → ℕ → ℕ → Bool
 passesOf E AtMost x y = leb x y
+passesOf E AtLeast x y = leb y x
 passesOf E Apart x y = eqb x 0 || eqb y 0
 passesOf E SumFits x y = leb (x + y) E
 
@@ -52,3 +57,12 @@ abbrev pub zipCells : (ℕ → ℕ → ℕ) → List ℕ → List ℕ → List �
 zipCells f [] b = []
 zipCells f (x ∷ a) [] = []
 zipCells f (x ∷ a) (y ∷ b) = f x y ∷ zipCells f a b
+
+abbrev pub testedChecks : ℕ → ℕ → Test → Refusal → List ℕ → List ℕ → List ℕ → List Check
+testedChecks W E t r a b out = writeChecks W a b out ++ (not (allCells (passesOf E t) a b), r) ∷ []
+
+abbrev pub testedAnswer : ℕ → ℕ → Test → Refusal → List ℕ → List ℕ → List ℕ → WriteAnswer
+testedAnswer W E t r a b out = writeAnswer (refusal (testedChecks W E t r a b out))
+
+abbrev pub testedCells : ℕ → ℕ → Test → Refusal → Combine → List ℕ → List ℕ → List ℕ → List ℕ
+testedCells W E t r op a b out = after (refusal (testedChecks W E t r a b out)) (zipCells (combinedOf op) a b) out

@@ -9,6 +9,8 @@ ghost use Rattle.monomials.specs.Cells.{passesOf, combinedOf, allCells, 
 pub(crate) enum Test {
     // The first is at most the second.
     AtMost,
+    // The first is at least the second.
+    AtLeast,
     // One of them is 0.
     Apart,
     // Their sum fits a cell.
@@ -20,6 +22,7 @@ fn passes(test: Test, x: u16, y: u16) -> bool
 {
     match test {
         Test::AtMost => x <= y,
+        Test::AtLeast => y <= x,
         Test::Apart => x == 0 || y == 0,
         Test::SumFits => (x as u32) + (y as u32) <= MAX_EXPONENT,
     }

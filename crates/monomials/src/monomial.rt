@@ -15,7 +15,7 @@ ghost use lib.ListN.{length};
 ghost use Rattle.laws.specs.Monomial.{degree};
 ghost use Rattle.laws.specs.Order.{lex, revlex, degrevlex};
 ghost use Rattle.monomials.specs.Refusal.{refusal, after};
-ghost use Rattle.monomials.specs.Cells.{comparedBy, passed, widthChecks, passesOf, combinedOf, allCells, zipCells};
+ghost use Rattle.monomials.specs.Cells.{comparedBy, passed, widthChecks, testedAnswer, testedCells, passesOf, combinedOf, allCells, zipCells};
 ghost use Rattle.monomials.specs.Monomial.{orderOf, writeAnswer, testAnswer, orderAnswer, pairChecks, writeChecks, degreeAnswer, exponentAnswer, powerAnswer, productAnswer, quotientAnswer, lcmAnswer, gcdAnswer, dividesAnswer, coprimeAnswer, lexAnswer, degrevlexAnswer, powerCells, productCells, quotientCells, lcmCells, gcdCells};
 
 // A number, or why there is none.
@@ -123,10 +123,7 @@ pub fn product(a: &[u16], b: &[u16], out: &mut [u16]) -> WriteAnswer
     ensures { λ r. do ⌜ r ≡ productAnswer (← ⟦MAX_WIDTH⟧ .entry) (← ⟦MAX_EXPONENT⟧ .entry) (now (a .entry)) (now (b .entry)) (now (out .entry)) ⌝ }
     ensures { λ r. do ⌜ now (out .exit) ≡ productCells (← ⟦MAX_WIDTH⟧ .entry) (← ⟦MAX_EXPONENT⟧ .entry) (now (a .entry)) (now (b .entry)) (now (out .entry)) ⌝ }
 {
-    if one_width(a, b, out.len()) && !all_cells(Test::SumFits, a, b) {
-        return refused(Refusal::Exponent);
-    }
-    write_pair(Combine::Sum, a, b, out)
+    write_if(Test::SumFits, Refusal::Exponent, Combine::Sum, a, b, out)
 }
 
 // a divided by b.
@@ -134,10 +131,14 @@ pub fn quotient(a: &[u16], b: &[u16], out: &mut [u16]) -> WriteAnswer
     ensures { λ r. do ⌜ r ≡ quotientAnswer (← ⟦MAX_WIDTH⟧ .entry) (now (a .entry)) (now (b .entry)) (now (out .entry)) ⌝ }
     ensures { λ r. do ⌜ now (out .exit) ≡ quotientCells (← ⟦MAX_WIDTH⟧ .entry) (now (a .entry)) (now (b .entry)) (now (out .entry)) ⌝ }
 {
-    if one_width(a, b, out.len()) && !all_cells(Test::AtMost, b, a) {
-        return refused(Refusal::Division);
-    }
-    write_pair(Combine::Difference, a, b, out)
+    write_if(
+        Test::AtLeast,
+        Refusal::Division,
+        Combine::Difference,
+        a,
+        b,
+        out,
+    )
 }
 
 // The lcm of a and b.
@@ -203,6 +204,24 @@ fn one_width(a: &[u16], b: &[u16], n: usize) -> bool
         return false;
     }
     n == a.len()
+}
+
+// Writes what is made of a and b, if the three have one width and each variable's exponents pass; where they do not, that is the refusal.
+fn write_if(
+    test: Test,
+    refusal: Refusal,
+    op: Combine,
+    a: &[u16],
+    b: &[u16],
+    out: &mut [u16],
+) -> WriteAnswer
+    ensures { λ r. do ⌜ r ≡ testedAnswer (← ⟦MAX_WIDTH⟧ .entry) (← ⟦MAX_EXPONENT⟧ .entry) test refusal (now (a .entry)) (now (b .entry)) (now (out .entry)) ⌝ }
+    ensures { λ r. do ⌜ now (out .exit) ≡ testedCells (← ⟦MAX_WIDTH⟧ .entry) (← ⟦MAX_EXPONENT⟧ .entry) test refusal op (now (a .entry)) (now (b .entry)) (now (out .entry)) ⌝ }
+{
+    if one_width(a, b, out.len()) && !all_cells(test, a, b) {
+        return refused(refusal);
+    }
+    write_pair(op, a, b, out)
 }
 
 // Writes what is made of a and b, if the three have one width.

@@ -12,11 +12,14 @@ passes-spec =
     (λ c. search needs)
     (λ c. search needs)
     (λ c. search needs)
+    (λ c. search needs)
     -- returns
     (λ c. rw (c .enum-told .given .1))
     -- returns-2
-    (λ c. rw (c .before .enum-told2 .given .1, eq-eqb _ _ (c .if1 .taken)))
+    (λ c. rw (c .enum-told2 .given .1))
     -- returns-3
-    (λ c. rw (c .before .enum-told2 .given .1, ne-eqb _ _ (c .if1 .left)))
+    (λ c. rw (c .before .enum-told3 .given .1, eq-eqb _ _ (c .if1 .taken)))
     -- returns-4
-    (λ c. rw (c .enum-told3 .given .1)))
+    (λ c. rw (c .before .enum-told3 .given .1, ne-eqb _ _ (c .if1 .left)))
+    -- returns-5
+    (λ c. rw (c .enum-told4 .given .1)))
