@@ -5,6 +5,8 @@ mod Capped
 mod Numbers
 mod Settled
 mod NumeratorCall
+mod UpdateCall
+mod Grown
 pub mod SignedValue
 pub mod DeterminedHilbert
 pub mod DeterminedNumerator

@@ -4,3 +4,5 @@ pub mod Coefficients
 pub mod Hilbert
 pub mod HilbertParts
 pub mod Numerator
+pub mod Update
+pub mod Grown

@@ -11,6 +11,8 @@ mod minimal;
 pub mod numerator;
 mod parts;
 mod pivot;
+mod quotients;
 mod rows;
 pub mod signed;
+pub mod update;
 pub mod wide;
