@@ -5,6 +5,8 @@ mod Capped
 mod Numbers
 mod Settled
 mod NumeratorCall
+mod UpdateCall
+mod Grown
 mod LeastPowers
 mod WideSums
 mod DimensionCall

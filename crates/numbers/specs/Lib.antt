@@ -4,5 +4,7 @@ pub mod Coefficients
 pub mod Hilbert
 pub mod HilbertParts
 pub mod Numerator
+pub mod Update
+pub mod Grown
 pub mod Dimension
 pub mod DimensionParts

@@ -80,7 +80,7 @@ pub fn hilbert_numerator(
 }
 
 // The refusal as an answer.
-fn refused(refusal: Refusal) -> LengthAnswer
+pub(crate) fn refused(refusal: Refusal) -> LengthAnswer
     ensures { λ r. ⌜ r ≡ record { outcome = LengthOutcome.Refused refusal } ⌝ }
 {
     LengthAnswer {
