@@ -101,13 +101,13 @@ pub fn add_generators(
 fn beyond(given: &[i64]) -> bool
     ensures { λ r. do ⌜ r ≡ beyondOf (← ⟦MAX_COEFFICIENT⟧ .entry) (now (given .entry)) ⌝ }
 {
-    let mut i: usize = 0;
-    while i < given.len() {
-        let x = given[i];
+    let mut k: usize = 0;
+    while k < given.len() {
+        let x = given[k];
         if MAX_COEFFICIENT < magnitude(x) {
             return true;
         }
-        i += 1;
+        k += 1;
     }
     false
 }
