@@ -6,7 +6,6 @@ mod Numbers
 mod Settled
 mod NumeratorCall
 mod UpdateCall
-mod Grown
 pub mod SignedValue
 pub mod DeterminedHilbert
 pub mod DeterminedNumerator

@@ -5,4 +5,3 @@ pub mod Hilbert
 pub mod HilbertParts
 pub mod Numerator
 pub mod Update
-pub mod Grown

@@ -28,7 +28,7 @@ ghost use Rattle.laws.specs.Room.{updateAsked};
 ghost use Rattle.laws.proofs.Added.{AddedTo, Zeros};
 ghost use Rattle.laws.proofs.Asked.{Lists, both};
 ghost use Rattle.laws.proofs.Rows.{at};
-ghost use Rattle.numbers.specs.Grown.{grown, taken};
+ghost use Rattle.laws.proofs.Grown.{grown, taken};
 ghost use Rattle.numbers.specs.Update.{beyond as beyondOf, updateAnswer, updateRoom, updateFirst, updateSecond};
 
 // The greatest magnitude of a given coefficient: 2^61.

@@ -6,7 +6,6 @@ use mir.Facts.{toZ-ofZ}
 use mir.Syntax.{w64}
 use native.Mathlib.Omega.{arith}
 use Rattle.numbers.proofs.UpdateCall.{beyond-end, beyond-next, beyond-stop}
-use Rattle.numbers.specs.Grown.{taken}
 use Rattle.numbers.specs.Update.{beyond}
 use Rattle.numbers.proofs.update.beyond.Statement.{statement}
 use Rattle.numbers.proofs.update.beyond.Tie as tie
