@@ -6,7 +6,6 @@ mod Numbers
 mod Settled
 mod NumeratorCall
 mod UpdateCall
-mod Grown
 mod LeastPowers
 mod WideSums
 mod DimensionCall

@@ -19,7 +19,7 @@ use Rattle.laws.specs.Coefficients.{coefficient}
 use Rattle.laws.specs.Ideal.{listed}
 use Rattle.laws.specs.Numerator.{update}
 use Rattle.laws.specs.Room.{cellsAsked, updateAsked}
-use Rattle.laws.proofs.Asked.{both, both-count, cells-enough}
+use Rattle.laws.proofs.Asked.{both}
 use Rattle.monomials.specs.Refusal.{refusal}
 use Rattle.monomials.specs.declared.refusal.Refusal.{Refusal}
 use Rattle.monomials.specs.declared.refusal.Refusal.the-variants.{Width, Count, Cells, Coefficient, CellRoom, CoefficientRoom}
@@ -49,12 +49,6 @@ pub within : (M : ℕ) (G : List ℤ) → beyond M G ≡ false → (k : ℕ) →
 within M [] h k = omega arith
 within M (z ∷ G) h zero = ltb-false M (natAbs z) (or-none (ltb M (natAbs z)) (beyond M G) h .0)
 within M (z ∷ G) h (suc k) = within M G (or-none (ltb M (natAbs z)) (beyond M G) h .1) k
-
--- a room of the asked size has the cells that the engine wants
-pub enough-both : (n s : ℕ) (xs : List ℕ) (t : ℕ) (ys room : List ℕ) → length room ≡ cellsAsked n (both n s xs t ys) → (s + t) * (s + t) * n ≤ length room
-enough-both n s xs t ys room e =
-    let h : length (both n s xs t ys) * length (both n s xs t ys) * n ≤ length room = rw e (cells-enough n (both n s xs t ys)) in
-    rw (both-count n s xs t ys) at h
 
 module _ (W C M n : ℕ) (G : List ℤ) (s0 : ℕ) (existing : List ℕ) (s1 : ℕ) (added room : List ℕ) (p q : List ℤ) where
   abbrev pub Outcome : LengthAnswer → List ℕ → List ℤ → List ℤ → Type 0

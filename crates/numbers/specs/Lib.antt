@@ -5,6 +5,5 @@ pub mod Hilbert
 pub mod HilbertParts
 pub mod Numerator
 pub mod Update
-pub mod Grown
 pub mod Dimension
 pub mod DimensionParts

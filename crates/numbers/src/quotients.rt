@@ -8,7 +8,7 @@ ghost use lib.ListN.{length, getD};
 ghost use Rattle.laws.specs.Ideal.{colon};
 ghost use Rattle.laws.proofs.Asked.{both};
 ghost use Rattle.laws.proofs.Rows.{Wrote};
-ghost use Rattle.numbers.specs.Grown.{Carries, DividedBy};
+ghost use Rattle.laws.proofs.Grown.{Carries, DividedBy};
 
 // The s monomials in xs and, behind them, the first t in ys.
 fn put_lists(room: &mut [u16], n: usize, s: usize, xs: &[u16], t: usize, ys: &[u16])

@@ -28,7 +28,7 @@ ghost use Rattle.laws.specs.Room.{updateAsked};
 ghost use Rattle.laws.proofs.Added.{AddedTo, Zeros};
 ghost use Rattle.laws.proofs.Asked.{Lists, both};
 ghost use Rattle.laws.proofs.Rows.{at};
-ghost use Rattle.numbers.specs.Grown.{grown, taken};
+ghost use Rattle.laws.proofs.Grown.{grown, taken};
 ghost use Rattle.numbers.specs.Update.{beyond as beyondOf, updateAnswer, updateRoom, updateFirst, updateSecond};
 
 // The greatest magnitude of a given coefficient: 2^61.
@@ -101,13 +101,13 @@ pub fn add_generators(
 fn beyond(given: &[i64]) -> bool
     ensures { λ r. do ⌜ r ≡ beyondOf (← ⟦MAX_COEFFICIENT⟧ .entry) (now (given .entry)) ⌝ }
 {
-    let mut i: usize = 0;
-    while i < given.len() {
-        let x = given[i];
+    let mut k: usize = 0;
+    while k < given.len() {
+        let x = given[k];
         if MAX_COEFFICIENT < magnitude(x) {
             return true;
         }
-        i += 1;
+        k += 1;
     }
     false
 }

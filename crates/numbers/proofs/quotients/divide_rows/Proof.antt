@@ -2,9 +2,8 @@ use Prim.Native.Nat.{_-_, _≤_}
 use borrow.Author.Needs.{needs}
 use mathlib.Core.Path.{_≡_}
 use native.Mathlib.Omega.{arith}
+use Rattle.laws.proofs.Grown.{DividedBy, divided-by-more, divided-by-none}
 use Rattle.laws.proofs.Rows.{row-end}
-use Rattle.numbers.proofs.Grown.{divided-by-more, divided-by-none}
-use Rattle.numbers.specs.Grown.{DividedBy}
 use Rattle.numbers.proofs.quotients.divide_rows.Statement.{statement}
 use Rattle.numbers.proofs.quotients.divide_rows.Tie as tie
 

@@ -3,7 +3,7 @@ use borrow.Author.Needs.{needs}
 use lib.ListN.{length-take}
 use lib.Seq.{getD-take}
 use native.Mathlib.Omega.{arith}
-use Rattle.numbers.proofs.Grown.{carries-both}
+use Rattle.laws.proofs.Grown.{carries-both}
 use Rattle.numbers.proofs.quotients.put_lists.Statement.{statement}
 use Rattle.numbers.proofs.quotients.put_lists.Tie as tie
 

@@ -1,5 +1,5 @@
 use borrow.Author.Needs.{needs}
-use Rattle.numbers.proofs.Grown.{carries-colon}
+use Rattle.laws.proofs.Grown.{carries-colon}
 use Rattle.numbers.proofs.quotients.quotients.Statement.{statement}
 use Rattle.numbers.proofs.quotients.quotients.Tie as tie
 

@@ -5,11 +5,10 @@ use mathlib.Core.Path.{_∙_, _≡_, refl, sym}
 use native.Mathlib.Nat.{mul-le-mul-right}
 use native.Mathlib.Omega.{arith}
 use Rattle.laws.proofs.Added.{AddedTo, Zeros}
+use Rattle.laws.proofs.Grown.{grown, grown-more, grown-none, listed-next}
 use Rattle.laws.proofs.Room.{room-square}
 use Rattle.laws.proofs.Rows.{at}
 use Rattle.laws.specs.Ideal.{listed}
-use Rattle.numbers.proofs.Grown.{grown-more, grown-none, listed-next}
-use Rattle.numbers.specs.Grown.{grown}
 use Rattle.numbers.proofs.update.add_each.Statement.{statement}
 use Rattle.numbers.proofs.update.add_each.Tie as tie
 

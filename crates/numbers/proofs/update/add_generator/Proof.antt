@@ -3,10 +3,9 @@ use borrow.Author.Needs.{needs}
 use lib.ListN.{drop, length, take}
 use native.Mathlib.Omega.{arith}
 use Rattle.laws.proofs.Asked.{both, both-within}
+use Rattle.laws.proofs.Grown.{taken-added, taken-part}
 use Rattle.laws.proofs.Room.{room-one, room-square}
 use Rattle.laws.proofs.Rows.{part-len, row-end}
-use Rattle.laws.specs.Monomial.{degree}
-use Rattle.numbers.proofs.Grown.{taken-added, taken-part}
 use Rattle.numbers.proofs.update.add_generator.Statement.{statement}
 use Rattle.numbers.proofs.update.add_generator.Tie as tie
 

@@ -7,13 +7,11 @@ use mathlib.Core.List.{_++_}
 use mathlib.Core.Path.{_∙_, ap, refl, sym}
 use native.Mathlib.Nat.{mul-le-mul}
 use native.Mathlib.Omega.{arith}
-use Rattle.laws.proofs.Asked.{both}
+use Rattle.laws.proofs.Asked.{both, enough-both}
 use Rattle.laws.specs.Ideal.{listed}
 use Rattle.laws.specs.Numerator.{update}
 use Rattle.laws.specs.Room.{updateAsked}
-use Rattle.numbers.proofs.UpdateCall.{enough-both, gives, refuses-added, refuses-coefficient, refuses-count, refuses-existing, refuses-first, refuses-room, refuses-second, refuses-width, within}
-use Rattle.numbers.specs.Grown.{taken}
-use Rattle.numbers.specs.Update.{beyond}
+use Rattle.numbers.proofs.UpdateCall.{gives, refuses-added, refuses-coefficient, refuses-count, refuses-existing, refuses-first, refuses-room, refuses-second, refuses-width, within}
 use Rattle.numbers.proofs.update.add_generators.Statement.{statement}
 use Rattle.numbers.proofs.update.add_generators.Tie as tie
 
@@ -65,18 +63,19 @@ add-generators-spec =
     -- slice-aggregate-update-in-3
     (λ c. let p3 = c .before .before .before in let p5 = p3 .before .before in let p18 = p5 .before .before .before .before .before .before .before .before .before .before .before .before .before in sym (length-take-le (p5 .update-asked .result) (p18 .args .second .now) (p3 .if9 .left)))
     -- update-in-requires
-    (λ c κs. let p3 = c .before .before .before in let p4 = p3 .before in let p5 = p4 .before in let p6 = p5 .before in let p7 = p6 .before in let p8 = p7 .before in let p9 = p8 .before in let p10 = p9 .before in let p11 = p10 .before in let p12 = p11 .before in let p13 = p12 .before in let p14 = p13 .before in let p18 = p14 .before .before .before .before in 
+    (λ c κs. let p3 = c .before .before .before in let p4 = p3 .before in let p5 = p4 .before in let p6 = p5 .before in let p7 = p6 .before in let p8 = p7 .before in let p9 = p8 .before in let p10 = p9 .before in let p11 = p10 .before in let p12 = p11 .before in let p13 = p12 .before in let p14 = p13 .before in let p18 = p14 .before .before .before .before in
     let a = p18 .args in
     let x = length-take-le (p7 .cells-asked .result) (a .room .now) (p6 .if7 .left) in
     let y = length-take-le (p5 .update-asked .result) (a .first .now) (p4 .if8 .left) in
-    let z = length-take-le (p5 .update-asked .result) (a .second .now) (p3 .if9 .left) in
-    ((p11 .if4 .left, p10 .if5 .left, omega (arith, p14 .if1 .left), omega (arith, p13 .if2 .left, p12 .if3 .left), enough-both (a .n) (a .s0) (a .existing .now) (a .s1) (a .added .now) (take (p7 .cells-asked .result) (a .room .now)) (x ∙ p7 .cells-asked .ensures)),
-    (y ∙ p5 .update-asked .ensures, z ∙ sym y, within 2305843009213693952 (a .given .now) (sym (p9 .beyond .ensures) ∙ p8 .if6 .left))))
+    let z = length-take-le (p5 .update-asked .result) (a .second .now) (p3 .if9 .left) in (
+      (p11 .if4 .left, p10 .if5 .left, omega (arith, p14 .if1 .left), omega (arith, p13 .if2 .left, p12 .if3 .left), enough-both (a .n) (a .s0) (a .existing .now) (a .s1) (a .added .now) (take (p7 .cells-asked .result) (a .room .now)) (x ∙ p7 .cells-asked .ensures)),
+      (y ∙ p5 .update-asked .ensures, z ∙ sym y, within 2305843009213693952 (a .given .now) (sym (p9 .beyond .ensures) ∙ p8 .if6 .left)),
+    ))
     (λ c. search needs)
     (λ c. search needs)
     (λ c. search needs)
     -- returns-10
-    (λ c. let p4 = c .before .before .before .before in let p8 = p4 .before .before .before .before in let p9 = p8 .before in let p10 = p9 .before in let p11 = p10 .before in let p12 = p11 .before in let p13 = p12 .before in let p14 = p13 .before in let p15 = p14 .before in let p16 = p15 .before in let p17 = p16 .before in let p18 = p17 .before in let p19 = p18 .before in let p23 = p19 .before .before .before .before in 
+    (λ c. let p4 = c .before .before .before .before in let p8 = p4 .before .before .before .before in let p9 = p8 .before in let p10 = p9 .before in let p11 = p10 .before in let p12 = p11 .before in let p13 = p12 .before in let p14 = p13 .before in let p15 = p14 .before in let p16 = p15 .before in let p17 = p16 .before in let p18 = p17 .before in let p19 = p18 .before in let p23 = p19 .before .before .before .before in
     let a = p23 .args in
     let d = p4 .update-in .ensures in
     let x = length-take-le (p12 .cells-asked .result) (a .room .now) (p11 .if7 .left) in

@@ -1,13 +1,13 @@
-use Prim.Native.Nat.{zero, ℕ}
+use Prim.Native.Nat.{ℕ}
 use borrow.Author.Needs.{needs}
 use lib.IntN.{pos}
 use lib.ListN.{length, replicate}
 use mathlib.Core.Path.{_∙_, ap, sym}
 use native.Mathlib.Omega.{arith}
+use Rattle.laws.proofs.Grown.{updated, updated-length, updated-padded}
 use Rattle.laws.proofs.Ideal.{listed-count}
 use Rattle.laws.proofs.Trim.{zeros-all}
 use Rattle.laws.specs.Ideal.{listed}
-use Rattle.numbers.proofs.Grown.{updated, updated-length, updated-padded}
 use Rattle.numbers.proofs.update.update_in.Statement.{statement}
 use Rattle.numbers.proofs.update.update_in.Tie as tie
 
@@ -26,7 +26,7 @@ update-in-spec =
     (λ c. search needs)
     (λ c. search needs)
     -- returns
-    (λ c. let p4 = c .before .before .before .before in let p10 = p4 .before .before .before .before .before .before in let p15 = p10 .before .before .before .before .before in let p18 = p15 .before .before .before in let p21 = p18 .before .before .before in let p26 = p21 .before .before .before .before .before in 
+    (λ c. let p4 = c .before .before .before .before in let p10 = p4 .before .before .before .before .before .before in let p15 = p10 .before .before .before .before .before in let p18 = p15 .before .before .before in let p21 = p18 .before .before .before in let p26 = p21 .before .before .before .before .before in
     let a = p26 .args in
     let p = p26 .pre in
     let G = a .given .now in
@@ -37,7 +37,10 @@ update-in-spec =
     let b = p15 .add-shifted .ensures in
     let o = p10 .add-each .last .1 .1 .1 .1 .1 .1 .0 in
     let q = p10 .add-each .last .1 .1 .1 .1 .1 .1 .1 .0 in
-    let e = updated G L K (p21 .zero .last .0) (p15 .add-shifted .last .0) o (omega (arith, listed-count (a .n) (a .s0) (a .existing .now), listed-count (a .n) (a .s1) (a .added .now), p .0 .3)) (p .1 .2) (z .1) b (d .0) (z .0 ∙ p .1 .0) in
-    ((updated-length G L K o (c .trimmed .result) e (c .trimmed .ensures .0), p4 .wipe .ensures ∙ ap (λ (k : ℕ). replicate k 0) (p10 .add-each .kept .1 .1 .1 .1 .1 .0)),
-    (updated-padded G L K o (length (a .first .now)) e (d .0 .len ∙ b .len ∙ z .0),
-    zeros-all q (d .1 .1) ∙ ap (λ (k : ℕ). replicate k (pos 0)) (d .1 .0 ∙ p18 .zero2 .ensures .0)))))
+    let e = updated G L K (p21 .zero .last .0) (p15 .add-shifted .last .0) o (omega (arith, listed-count (a .n) (a .s0) (a .existing .now), listed-count (a .n) (a .s1) (a .added .now), p .0 .3)) (p .1 .2) (z .1) b (d .0) (z .0 ∙ p .1 .0) in (
+      (updated-length G L K o (c .trimmed .result) e (c .trimmed .ensures .0), p4 .wipe .ensures ∙ ap (λ (k : ℕ). replicate k 0) (p10 .add-each .kept .1 .1 .1 .1 .1 .0)),
+      (
+        updated-padded G L K o (length (a .first .now)) e (d .0 .len ∙ b .len ∙ z .0),
+        zeros-all q (d .1 .1) ∙ ap (λ (k : ℕ). replicate k (pos 0)) (d .1 .0 ∙ p18 .zero2 .ensures .0),
+      ),
+    )))

@@ -25,24 +25,24 @@ use lib.IntN.{ℤ, pos, negsuc, natAbs, negℤ, _+ℤ_, _-ℤ_, +ℤ-idl, +ℤ-i
 use borrow.Author.Tests.{ltb-true, ltb-false}
 use mir.Val.{SFits}
 use mir.Syntax.{w64}
 use Rattle.laws.specs.Monomial.{degree, quotient, product}
 use Rattle.laws.specs.Ideal.{listed, Within, multiple, colon}
 use Rattle.laws.specs.Coefficients.{coefficient, shift, first, trim}
 use Rattle.laws.specs.Numerator.{numeratorAt, updateAt, update}
 use Rattle.laws.specs.Room.{updateAsked}
 use Rattle.laws.proofs.Monomial.{length-quotient}
 use Rattle.laws.proofs.Ideal.{within-colon, multiple-colon}
 use Rattle.laws.proofs.Integer.{sub-self, abs-add, abs-sub}
 use Rattle.laws.proofs.Numerator.{numerator-append-one}
 use Rattle.laws.proofs.Rows.{at, rows, rows-next, row-end, at-length, at-cell, rows-ext, rows-within, part-is, Wrote}
 use Rattle.laws.proofs.Pass.{Thinned}
-use Rattle.laws.proofs.Added.{low, low-add, low-exact, AddedTo, Zeros, Words}
-use Rattle.laws.proofs.Seed.{seeded, seeded-minus, seeded-same}
+use Rattle.laws.proofs.Added.{low, low-add, low-exact, AddedTo, Zeros}
+use Rattle.laws.proofs.Seed.{seeded, shift-neg, seeded-minus, seeded-same}
 use Rattle.laws.proofs.Trim.{first-is, trim-pads}
 use Rattle.laws.proofs.Asked.{both}
 use Rattle.laws.proofs.Leaf.{by}
-use Rattle.numbers.specs.Grown.{Carries, DividedBy, taken, grown}
-use Rattle.laws.proofs.Exact.{rows-same, small-fits, numerator-small}
+use Rattle.laws.proofs.Few.{quotient-cell}
+use Rattle.laws.proofs.Exact.{rows-same, small-fits, numerator-small, zeros-words}
 
 pub listed-append : (n s t : ℕ) (xs ys : List ℕ) → length xs ≡ s * n → listed n (s + t) (xs ++ ys) ≡ listed n s xs ++ listed n t ys
 listed-append n zero t [] ys e = let f : 0 + t ≡ t = omega arith in ap (λ (z : ℕ). listed n z ys) f
@@ -66,6 +66,10 @@ pub listed-next : (n t : ℕ) (ys : List ℕ) → listed n (t + 1) ys ≡ listed
 listed-next n t ys = rw (add-one t) (listed-more n t ys)
 
 -- both lists, and their quotients, in the room
+
+pub record Carries (n m : ℕ) (L : List (List ℕ)) (xs ys : List ℕ) : Type 0 where
+  pub len : length ys ≡ length xs
+  pub same : (u : List ℕ) → multiple (rows n m ys) u ≡ multiple L u
 
 pub carries-both : (n s t m : ℕ) (xs ys room a b : List ℕ) (f : ℕ → ℕ) → length xs ≡ s * n → t * n ≤ length ys → (s + t) * n ≤ length room → m ≡ t * n → ((j : ℕ) → j < t * n → f j ≡ getD ys j 0)
     → Wrote room (λ j. getD xs j 0) 0 (length xs) a → Wrote a f (length xs) m b → Carries n (s + t) (both n s xs t ys) room b
@@ -95,14 +99,13 @@ carries-both n s t m xs ys room a b f e h g q r v w =
             ∙ r (j - length xs) k
             ∙ sym (ap (λ (z : ℕ). getD (xs ++ ys) z 0) i ∙ getD-append-add xs ys (j - length xs) 0)
 
+pub record DividedBy (n : ℕ) (g xs : List ℕ) (i : ℕ) (ys : List ℕ) : Type 0 where
+  pub len : length ys ≡ length xs
+  pub todo : (j : ℕ) → i * n ≤ j → getD ys j 0 ≡ getD xs j 0
+  pub done : rows n i ys ≡ colon (rows n i xs) g
+
 pub divided-by-none : (n : ℕ) (g xs : List ℕ) → DividedBy n g xs 0 xs
 divided-by-none n g xs = record { len = refl; todo = λ j h. refl; done = refl }
-
-quotient-cell : (a c : List ℕ) (j : ℕ) → getD (quotient a c) j 0 ≡ getD a j 0 - getD c j 0
-quotient-cell a [] j = omega arith
-quotient-cell [] (y ∷ c) j = omega arith
-quotient-cell (x ∷ a) (y ∷ c) zero = refl
-quotient-cell (x ∷ a) (y ∷ c) (suc j) = quotient-cell a c j
 
 pub divided-by-more : (n m : ℕ) (g xs : List ℕ) (i : ℕ) (ys zs : List ℕ) → length g ≡ n → m * n ≤ length xs → i < m → Wrote ys (λ j. getD ys (i * n + j) 0 - getD g j 0) (i * n) (length g) zs
     → DividedBy n g xs i ys → DividedBy n g xs (i + 1) zs
@@ -146,10 +149,8 @@ carries-colon n m k L g room a b c r q t =
 
 -- what new monomials add to the numerator
 
-shift-neg : (e : ℕ) (f g : ℕ → ℤ) → ((k : ℕ) → f k ≡ negℤ (g k)) → (k : ℕ) → shift e f k ≡ negℤ (shift e g k)
-shift-neg zero f g h k = h k
-shift-neg (suc e) f g h zero = refl
-shift-neg (suc e) f g h (suc k) = shift-neg e f g h k
+abbrev pub taken : List (List ℕ) → List ℕ → ℕ → ℤ
+taken L g k = negℤ (shift (degree g) (numeratorAt (colon L g)) k)
 
 pub taken-added : (n m d : ℕ) (L : List (List ℕ)) (g room xs : List ℕ) (out new : List ℤ) → Within n L → d ≡ degree g → Carries n m (colon L g) room xs
     → AddedTo (shift d (seeded (coefficient (negsuc 0 ∷ [])) [] (rows n m xs))) out new → AddedTo (taken L g) out new
@@ -164,6 +165,9 @@ taken-added n m d L g room xs out new w e c a =
 
 pub taken-part : (n a : ℕ) (ys : List ℕ) (L : List (List ℕ)) (out new : List ℤ) → AddedTo (taken L (take (a + n - a) (drop a ys))) out new → AddedTo (taken L (take n (drop a ys))) out new
 taken-part n a ys L out new h = rw (part-is n a ys) at h
+
+abbrev pub grown : List (List ℕ) → List (List ℕ) → ℕ → ℤ
+grown L K k = numeratorAt (L ++ K) k -ℤ numeratorAt L k
 
 pub grown-none : (L : List (List ℕ)) (out : List ℤ) → AddedTo (grown L []) out out
 grown-none L out = record { len = refl; sums = λ k l. ap low (sym (ap (λ (z : ℤ). coefficient out k +ℤ z) (is k) ∙ +ℤ-idr (coefficient out k))); words = λ w. w }
@@ -195,10 +199,6 @@ grown-more L K J g out a b e p q =
         ∙ ap (λ (I : List (List ℕ)). numeratorAt I k) (append-assoc L K (g ∷ []) ∙ ap (λ (I : List (List ℕ)). L ++ I) (sym e))
 
 -- the whole call
-
-zeros-words : (z : List ℤ) → Zeros z → Words z
-unfolding Zeros
-zeros-words z o j = rw (o j) (record { sfits = omega arith })
 
 module _ (G : List ℤ) (L K : List (List ℕ)) where
   pub updated : (z start out : List ℤ) → length L + length K ≤ 60 → ((k : ℕ) → natAbs (coefficient G k) ≤ 2 ^ 61) → Zeros z → AddedTo (shift 0 (λ k. by false (coefficient G k))) z start → AddedTo (grown L K) start out
