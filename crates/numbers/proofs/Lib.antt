@@ -6,6 +6,7 @@ mod Numbers
 mod Settled
 mod NumeratorCall
 mod UpdateCall
+mod MaskArray
 pub mod SignedValue
 pub mod DeterminedHilbert
 pub mod DeterminedNumerator
