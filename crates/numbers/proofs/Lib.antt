@@ -4,6 +4,7 @@ mod TwoWords
 mod Capped
 mod Numbers
 mod Settled
+mod MaskArray
 mod NumeratorCall
 mod UpdateCall
 mod LeastPowers

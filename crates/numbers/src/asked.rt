@@ -93,7 +93,7 @@ pub(crate) fn cells_asked(n: usize, s: usize, xs: &[u16], t: usize, ys: &[u16]) 
 }
 
 // The greater of two exponents.
-fn greater(x: u16, y: u16) -> u16
+pub(crate) fn greater(x: u16, y: u16) -> u16
     ensures { λ r. ⌜ r ≡ max x y ⌝ }
 {
     if x < y { y } else { x }

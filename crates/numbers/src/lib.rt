@@ -8,6 +8,7 @@ mod few;
 pub mod hf_at;
 mod hints;
 mod leaf;
+mod masks;
 mod minimal;
 pub mod numerator;
 mod parts;

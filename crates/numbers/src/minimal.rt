@@ -10,7 +10,7 @@ ghost use Rattle.laws.proofs.Rows.{at};
 ghost use Rattle.laws.proofs.Pass.{Thinned, Divided, ColonOf};
 
 // Whether the monomial a divides b.
-fn divides(a: &[u16], b: &[u16]) -> bool
+pub(crate) fn divides(a: &[u16], b: &[u16]) -> bool
     requires { do ⌜ (← ⟦a.len()⟧) ≡ (← ⟦b.len()⟧) ⌝ }
     ensures { λ r. ⌜ r ≡ dividesCells (now (a .entry)) (now (b .entry)) ⌝ }
 {

@@ -4,7 +4,7 @@ use crate::asked::coefficients_asked;
 use crate::engine::add_numerator;
 use crate::engine::trimmed;
 use crate::leaf::zero;
-use crate::minimal::minimalize;
+use crate::masks::starting_list;
 use crate::rows::put_cells;
 use crate::rows::wipe;
 use monomials::refusal::MAX_COUNT;
@@ -18,7 +18,6 @@ ghost use lib.ListN.{length, replicate};
 ghost use Rattle.laws.specs.Ideal.{listed};
 ghost use Rattle.laws.specs.Numerator.{numerator};
 ghost use Rattle.laws.specs.Room.{coefficientsAsked};
-ghost use Rattle.laws.proofs.Pass.{Thinned};
 ghost use Rattle.numbers.specs.Numerator.{numeratorAnswer, numeratorRoom, numeratorFirst, numeratorSecond};
 
 // How many coefficients, or why there are none.
@@ -97,7 +96,7 @@ pub(crate) fn numerator_in(
     first: &mut [i64],
     second: &mut [i64],
 ) -> usize
-    requires { ⌜ (length (now cells) ≡ s * n) × (n ≤ 65536) × (s ≤ 60) × (s * s * n ≤ length (now room)) ⌝ }
+    requires { ⌜ (length (now cells) ≡ s * n) × (n ≤ 255) × (s ≤ 60) × (s * s * n ≤ length (now room)) ⌝ }
     requires { ⌜ (length (now first) ≡ coefficientsAsked (listed n s (now cells))) × (length (now second) ≡ length (now first)) ⌝ }
     ensures { λ r. ⌜ (r ≡ length (numerator (listed n s (now (cells .entry))))) × (now (room .exit) ≡ replicate (length (now (room .entry))) 0) ⌝ }
     ensures { λ r. ⌜ now (first .exit) ≡ numerator (listed n s (now (cells .entry))) ++ replicate (length (now (first .entry)) - length (numerator (listed n s (now (cells .entry))))) (pos 0) ⌝ }
@@ -111,12 +110,4 @@ pub(crate) fn numerator_in(
     add_numerator(room, n, m, 0, &one, 0, first, second);
     wipe(room);
     trimmed(first)
-}
-
-// The list without the monomials that another one divides; how many are left.
-fn starting_list(room: &mut [u16], n: usize, s: usize) -> usize
-    requires { ⌜ s * n ≤ length (now room) ⌝ }
-    ensures { λ r. ⌜ Thinned n s (now (room .entry)) r (now (room .exit)) ⌝ }
-{
-    minimalize(room, n, s, 0xffff_ffff_ffff_ffff)
 }

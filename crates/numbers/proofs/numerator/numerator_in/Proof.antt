@@ -18,14 +18,14 @@ numerator-in-spec =
     -- put-cells-requires
     (λ c κs. let p3 = c .before .before .before in omega (arith, room-one (p3 .args .n) (p3 .args .s) (p3 .args .s) (length (p3 .args .room .now)) (omega arith) (p3 .pre .0 .3), p3 .pre .0 .0))
     -- starting-list-requires
-    (λ c κs. let p3 = c .before .before .before in let p7 = p3 .before .before .before .before in omega (arith, room-one (p7 .args .n) (p7 .args .s) (p7 .args .s) (length (p7 .args .room .now)) (omega arith) (p7 .pre .0 .3), p3 .put-cells .ensures .len))
+    (λ c κs. let p3 = c .before .before .before in let p7 = p3 .before .before .before .before in (omega (arith, room-one (p7 .args .n) (p7 .args .s) (p7 .args .s) (length (p7 .args .room .now)) (omega arith) (p7 .pre .0 .3), p3 .put-cells .ensures .len), p7 .pre .0 .2, p7 .pre .0 .1))
     (λ c κs. search needs)
     (λ c κs. search needs)
     (λ c. search needs)
     -- add-numerator-requires
     (λ c κs. let p5 = c .before .before .before .before .before in let p8 = p5 .before .before .before in let p12 = p8 .before .before .before .before in let p16 = p12 .before .before .before .before in let p20 = p16 .before .before .before .before in
     let l = p12 .starting-list .ensures in
-    ((omega (arith, room-square (p20 .args .n) (p20 .args .s) (p12 .starting-list .result) (length (p20 .args .room .now)) (l .less) (p20 .pre .0 .3), l .len, p16 .put-cells .ensures .len), p20 .pre .0 .1, omega arith), (p5 .zero2 .ensures .0 ∙ p20 .pre .1 .1 ∙ sym (p8 .zero .ensures .0), p5 .zero2 .ensures .1)))
+    ((omega (arith, room-square (p20 .args .n) (p20 .args .s) (p12 .starting-list .result) (length (p20 .args .room .now)) (l .less) (p20 .pre .0 .3), l .len, p16 .put-cells .ensures .len), omega (arith, p20 .pre .0 .1), omega arith), (p5 .zero2 .ensures .0 ∙ p20 .pre .1 .1 ∙ sym (p8 .zero .ensures .0), p5 .zero2 .ensures .1)))
     (λ c κs. search needs)
     (λ c κs. search needs)
     (λ c. search needs)
