@@ -1,0 +1,56 @@
+-- Any two outcomes that the contract of an exported function allows are equal: the number, and what the lent words or cells hold.
+use mathlib.Core.Path.{_≡_, sym, _∙_}
+use Prim.Native.Nat.{ℕ}
+use contract.Lifetimes.{Lfts}
+use Rattle.bridge.proofs.monomial.pt_degree.Reads as degree
+use Rattle.bridge.proofs.monomial.pt_exponent.Reads as exponent
+use Rattle.bridge.proofs.monomial.pt_power.Reads as power
+use Rattle.bridge.proofs.monomial.pt_product.Reads as product
+use Rattle.bridge.proofs.monomial.pt_quotient.Reads as quotient
+use Rattle.bridge.proofs.monomial.pt_lcm.Reads as lcm
+use Rattle.bridge.proofs.monomial.pt_gcd.Reads as gcd
+use Rattle.bridge.proofs.monomial.pt_divides.Reads as divides
+use Rattle.bridge.proofs.monomial.pt_coprime.Reads as coprime
+use Rattle.bridge.proofs.monomial.pt_lex.Reads as lex
+use Rattle.bridge.proofs.monomial.pt_degrevlex.Reads as degrevlex
+use Rattle.bridge.proofs.mask.pt_mask.Reads as mask
+
+-- what equals the same is equal, in two places at once
+both : {A B : Type 0} {x x′ a : A} {y y′ b : B} → (x ≡ a) × (y ≡ b) → (x′ ≡ a) × (y′ ≡ b) → (x ≡ x′) × (y ≡ y′)
+both p q = (p .0 ∙ sym (q .0), p .1 ∙ sym (q .1))
+
+pub pt-degree : (κs : Lfts 2) (a : _) (r r′ : ℕ) (s s′ : _) → degree.Post κs a r s → degree.Post κs a r′ s′ → (r ≡ r′) × (s .1 .0 .now ≡ s′ .1 .0 .now)
+pt-degree κs a r r′ s s′ p q = both p q
+
+pub pt-exponent : (κs : Lfts 2) (a : _) (r r′ : ℕ) (s s′ : _) → exponent.Post κs a r s → exponent.Post κs a r′ s′ → (r ≡ r′) × (s .1 .1 .0 .now ≡ s′ .1 .1 .0 .now)
+pt-exponent κs a r r′ s s′ p q = both p q
+
+pub pt-power : (κs : Lfts 1) (a : _) (r r′ : ℕ) (s s′ : _) → power.Post κs a r s → power.Post κs a r′ s′ → (r ≡ r′) × (s .1 .1 .1 .0 .now ≡ s′ .1 .1 .1 .0 .now)
+pt-power κs a r r′ s s′ p q = both p q
+
+pub pt-product : (κs : Lfts 3) (a : _) (r r′ : ℕ) (s s′ : _) → product.Post κs a r s → product.Post κs a r′ s′ → (r ≡ r′) × (s .1 .1 .0 .now ≡ s′ .1 .1 .0 .now)
+pt-product κs a r r′ s s′ p q = both p q
+
+pub pt-quotient : (κs : Lfts 3) (a : _) (r r′ : ℕ) (s s′ : _) → quotient.Post κs a r s → quotient.Post κs a r′ s′ → (r ≡ r′) × (s .1 .1 .0 .now ≡ s′ .1 .1 .0 .now)
+pt-quotient κs a r r′ s s′ p q = both p q
+
+pub pt-lcm : (κs : Lfts 3) (a : _) (r r′ : ℕ) (s s′ : _) → lcm.Post κs a r s → lcm.Post κs a r′ s′ → (r ≡ r′) × (s .1 .1 .0 .now ≡ s′ .1 .1 .0 .now)
+pt-lcm κs a r r′ s s′ p q = both p q
+
+pub pt-gcd : (κs : Lfts 3) (a : _) (r r′ : ℕ) (s s′ : _) → gcd.Post κs a r s → gcd.Post κs a r′ s′ → (r ≡ r′) × (s .1 .1 .0 .now ≡ s′ .1 .1 .0 .now)
+pt-gcd κs a r r′ s s′ p q = both p q
+
+pub pt-divides : (κs : Lfts 3) (a : _) (r r′ : ℕ) (s s′ : _) → divides.Post κs a r s → divides.Post κs a r′ s′ → (r ≡ r′) × (s .1 .1 .0 .now ≡ s′ .1 .1 .0 .now)
+pt-divides κs a r r′ s s′ p q = both p q
+
+pub pt-coprime : (κs : Lfts 3) (a : _) (r r′ : ℕ) (s s′ : _) → coprime.Post κs a r s → coprime.Post κs a r′ s′ → (r ≡ r′) × (s .1 .1 .0 .now ≡ s′ .1 .1 .0 .now)
+pt-coprime κs a r r′ s s′ p q = both p q
+
+pub pt-lex : (κs : Lfts 3) (a : _) (r r′ : ℕ) (s s′ : _) → lex.Post κs a r s → lex.Post κs a r′ s′ → (r ≡ r′) × (s .1 .1 .0 .now ≡ s′ .1 .1 .0 .now)
+pt-lex κs a r r′ s s′ p q = both p q
+
+pub pt-degrevlex : (κs : Lfts 3) (a : _) (r r′ : ℕ) (s s′ : _) → degrevlex.Post κs a r s → degrevlex.Post κs a r′ s′ → (r ≡ r′) × (s .1 .1 .0 .now ≡ s′ .1 .1 .0 .now)
+pt-degrevlex κs a r r′ s s′ p q = both p q
+
+pub pt-mask : (κs : Lfts 2) (a : _) (r r′ : ℕ) (s s′ : _) → mask.Post κs a r s → mask.Post κs a r′ s′ → (r ≡ r′) × (s .1 .1 .1 .0 .now ≡ s′ .1 .1 .1 .0 .now)
+pt-mask κs a r r′ s s′ p q = both p q

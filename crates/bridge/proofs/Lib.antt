@@ -1,0 +1,2 @@
+-- The proofs of the bridge.
+pub mod Determined

@@ -1,0 +1,2 @@
+-- What the contracts of the bridge cite, over the definitions of the layers below.
+pub mod Told

@@ -1,0 +1,5 @@
+// The calls over numbers and slices alone, for C and Rust: tests/bridge/bridge.h declares them. Each returns the call's number, 0 where it
+// is done, and writes `values` only then.
+pub mod mask;
+pub mod monomial;
+mod told;
