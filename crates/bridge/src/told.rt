@@ -38,9 +38,10 @@ pub fn tell(told: Told, values: &mut [u64; 4]) -> u8
 pub fn number_in(told: Told) -> u8
     ensures { λ r. ⌜ r ≡ numberIn told ⌝ }
 {
-    match told {
-        Told::Done(_, _, _) => 0,
-        Told::Refused(refusal) => monomials::refusal::number_of(refusal),
+    if let Told::Refused(refusal) = told {
+        monomials::refusal::number_of(refusal)
+    } else {
+        0
     }
 }
 
