@@ -5,15 +5,17 @@
 --   trim-trimmed, trim-coefficient                 trimming leaves no 0 at the end and keeps each coefficient
 --   trimmed-unique                                 trimmed lists with the same coefficients are equal
 --   trim-unique, trim-same                         the trimmed list of a list, by its coefficients
+--   trim-end-zero, trim-end                        of a list that ends in 0, and of one that does not, the rest being the first n places
 use mathlib.Core.Path.{_≡_, refl, sym, ap, ap₂, _∙_}
 use mathlib.Core.Logic.{_≢_}
 use mathlib.Core.Bool.{Bool, true, false}
-use mathlib.Core.List.{List, [], _∷_}
+use mathlib.Core.List.{List, [], _∷_, _++_}
 use Prim.Native.Nat.{ℕ, zero, suc, _+_, _-_, _≤_, _<_}
 use native.Mathlib.Omega.{arith}
 use native.Mathlib.Nat.{zero-add, suc-add}
 use lib.IntN.{ℤ, pos, negsuc, _+ℤ_, _-ℤ_, pos-ne-negsuc}
-use lib.ListN.{length}
+use lib.ListN.{length, take, length-append}
+use lib.Seq.{take-suc, length-take-le}
 use Rattle.laws.specs.Coefficients.{coefficient, Trimmed, trimCons, trim, first, one, shift}
 
 -- shifts
@@ -114,3 +116,26 @@ trim-unique p q t h = trimmed-unique p (trim q) t (trim-trimmed q) (λ k. h k �
 
 pub trim-same : (p q : List ℤ) → ((k : ℕ) → coefficient p k ≡ coefficient q k) → trim p ≡ trim q
 trim-same p q h = trim-unique (trim p) q (trim-trimmed p) (λ k. trim-coefficient p k ∙ h k)
+
+trim-snoc-zero : (p : List ℤ) → trim (p ++ (pos 0 ∷ [])) ≡ trim p
+trim-snoc-zero [] = refl
+trim-snoc-zero (x ∷ p) = ap (trimCons x) (trim-snoc-zero p)
+
+trim-snoc : (p : List ℤ) (x : ℤ) → x ≢ pos 0 → trim (p ++ (x ∷ [])) ≡ p ++ (x ∷ [])
+trim-snoc [] (pos zero) h = absurd (h refl)
+trim-snoc [] (pos (suc n)) h = refl
+trim-snoc [] (negsuc n) h = refl
+trim-snoc (y ∷ []) x h = ap (trimCons y) (trim-snoc [] x h)
+trim-snoc (y ∷ z ∷ p) x h = ap (trimCons y) (trim-snoc (z ∷ p) x h)
+
+pub trim-end-zero : (p : List ℤ) (n : ℕ) → 0 < n → n ≤ length p → coefficient p (n - 1) ≡ pos 0 → trim (take n p) ≡ trim (take (n - 1) p)
+trim-end-zero p zero l h e = absurd (omega arith)
+trim-end-zero p (suc n) l h e =
+    let q : suc n - 1 ≡ n = omega arith in
+    rw (q, take-suc p n (pos 0) h, rw q at e) (trim-snoc-zero (take n p))
+
+pub trim-end : (p : List ℤ) (n : ℕ) → 0 < n → n ≤ length p → coefficient p (n - 1) ≢ pos 0 → length (trim (take n p)) ≡ n
+trim-end p zero l h e = absurd (omega arith)
+trim-end p (suc n) l h e =
+    let q : suc n - 1 ≡ n = omega arith in
+    rw (take-suc p n (pos 0) h, trim-snoc (take n p) (coefficient p n) (rw q at e), length-append) (omega (arith, length-take-le n p (omega arith)))

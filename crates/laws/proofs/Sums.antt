@@ -4,12 +4,28 @@
 --   sum-shift, sums-shift    of t^e times a polynomial
 --   sum-injective, sums-injective  equal sums at every degree have equal terms
 --   pos-sum, pos-sums        over naturals, seen over integers
+--   sum-below                the prefix sum at d is the sum of the first d + 1 terms
+--   sum-add, sums-add        of a sum, over naturals
+--   sums-parts               of integers: those of the positive parts less those of the negative ones
+--   sums-size                of magnitudes: those of the positive parts and those of the negative ones
+--   capped-add               a sum held down to a limit depends on its terms held down alone
+--   capped-more              one term more in a sum held down
+--   capped-below             and so does a sum of any number of terms
+--   capped-sums              and so do n-fold sums
+--   capped-stage             one more stage of sums held down is one more fold
+--   capped-reaches           a number held down reaches the limit exactly where the number does
+--   capped-large             whether a sum reaches the limit is seen from its terms held down
+--   capped-exact             and where it does not, they are the terms themselves
 use mathlib.Core.Path.{_≡_, refl, sym, ap, ap₂, _∙_}
-use Prim.Native.Nat.{ℕ, zero, suc, _+_, _≤_, _<_}
+use mathlib.Core.Bool.{Bool, true, false}
+use Prim.Native.Nat.{ℕ, zero, suc, _+_, _≤_, _<_, min}
 use native.Mathlib.Omega.{arith}
-use lib.IntN.{ℤ, pos, _+ℤ_, _-ℤ_, +ℤ-idl, +ℤ-idr, pos-+ℤ-pos}
+use lib.Dec.{leb}
+use borrow.Author.Tests.{leb-true, leb-false, le-leb, lt-leb}
+use lib.IntN.{ℤ, pos, negsuc, natAbs, _+ℤ_, _-ℤ_, +ℤ-idl, +ℤ-idr, pos-+ℤ-pos}
 use Rattle.laws.specs.Coefficients.{shift}
-use Rattle.laws.specs.Sums.{sum, sums, sumℤ, sumsℤ}
+use Rattle.laws.specs.Sums.{sumBelow, sum, sums, sumℤ, sumsℤ}
+use Rattle.laws.specs.Word.{plus, minus}
 use Rattle.laws.proofs.Integer.{sub-swap, cancel-add}
 use Rattle.laws.proofs.Coefficients.{shift-ext}
 
@@ -63,3 +79,84 @@ pos-sum f (suc d) = sym (pos-+ℤ-pos (f (suc d)) (sum f d)) ∙ ap (λ (z : ℤ
 pub pos-sums : (n : ℕ) (f : ℕ → ℕ) (d : ℕ) → pos (sums n f d) ≡ sumsℤ n (λ k. pos (f k)) d
 pos-sums zero f d = refl
 pos-sums (suc n) f d = pos-sum (sums n f) d ∙ sum-ext (λ k. pos (sums n f k)) (sumsℤ n (λ k. pos (f k))) (pos-sums n f) d
+
+pub sum-below : (f : ℕ → ℕ) (d : ℕ) → sum f d ≡ sumBelow (suc d) f
+sum-below f zero = omega arith
+sum-below f (suc d) = ap (λ (z : ℕ). f (suc d) + z) (sum-below f d)
+
+pub sum-add : (f g : ℕ → ℕ) (d : ℕ) → sum (λ k. f k + g k) d ≡ sum f d + sum g d
+sum-add f g zero = refl
+sum-add f g (suc d) = omega (arith, sum-add f g d)
+
+sum-same : (f g : ℕ → ℕ) → ((k : ℕ) → f k ≡ g k) → (d : ℕ) → sum f d ≡ sum g d
+sum-same f g h zero = h zero
+sum-same f g h (suc d) = ap₂ _+_ (h (suc d)) (sum-same f g h d)
+
+sums-same : (n : ℕ) (f g : ℕ → ℕ) → ((k : ℕ) → f k ≡ g k) → (d : ℕ) → sums n f d ≡ sums n g d
+sums-same zero f g h d = h d
+sums-same (suc n) f g h d = sum-same (sums n f) (sums n g) (sums-same n f g h) d
+
+pub sums-add : (n : ℕ) (f g : ℕ → ℕ) (d : ℕ) → sums n (λ k. f k + g k) d ≡ sums n f d + sums n g d
+sums-add zero f g d = refl
+sums-add (suc n) f g d = sum-same (sums n (λ k. f k + g k)) (λ k. sums n f k + sums n g k) (sums-add n f g) d ∙ sum-add (sums n f) (sums n g) d
+
+-- an integer by its parts
+
+parts : (z : ℤ) → z ≡ pos (plus z) -ℤ pos (minus z)
+parts (pos n) = sym (+ℤ-idr (pos n))
+parts (negsuc n) = sym (+ℤ-idl (negsuc n))
+
+parts-size : (z : ℤ) → natAbs z ≡ plus z + minus z
+parts-size (pos n) = omega arith
+parts-size (negsuc n) = omega arith
+
+pub sums-parts : (n : ℕ) (f : ℕ → ℤ) (d : ℕ) → sumsℤ n f d ≡ pos (sums n (λ k. plus (f k)) d) -ℤ pos (sums n (λ k. minus (f k)) d)
+sums-parts n f d =
+    sums-ext n f (λ k. pos (plus (f k)) -ℤ pos (minus (f k))) (λ k. parts (f k)) d
+    ∙ sums-sub n (λ k. pos (plus (f k))) (λ k. pos (minus (f k))) d
+    ∙ sym (ap₂ _-ℤ_ (pos-sums n (λ k. plus (f k)) d) (pos-sums n (λ k. minus (f k)) d))
+
+pub sums-size : (n : ℕ) (f : ℕ → ℤ) (d : ℕ) → sums n (λ k. natAbs (f k)) d ≡ sums n (λ k. plus (f k)) d + sums n (λ k. minus (f k)) d
+sums-size n f d =
+    sums-same n (λ k. natAbs (f k)) (λ k. plus (f k) + minus (f k)) (λ k. parts-size (f k)) d ∙ sums-add n (λ k. plus (f k)) (λ k. minus (f k)) d
+
+-- held down to a limit
+
+module _ (C : ℕ) where
+  pub capped-add : (a a′ b b′ : ℕ) → min a C ≡ min a′ C → min b C ≡ min b′ C → min (a + b) C ≡ min (a′ + b′) C
+  capped-add a a′ b b′ h k = omega arith
+
+  pub capped-more : (a b : ℕ) → min (min a C + b) C ≡ min (b + a) C
+  capped-more a b = omega arith
+
+  pub capped-below : (n : ℕ) (f g : ℕ → ℕ) → ((k : ℕ) → k < n → min (f k) C ≡ min (g k) C) → min (sumBelow n f) C ≡ min (sumBelow n g) C
+  capped-below zero f g h = refl
+  capped-below (suc n) f g h =
+      capped-add (f n) (g n) (sumBelow n f) (sumBelow n g) (h n (omega arith)) (capped-below n f g (λ k l. h k (omega arith)))
+
+  pub capped-sums : (n m : ℕ) (f g : ℕ → ℕ) → ((k : ℕ) → k < m → min (f k) C ≡ min (g k) C) → (k : ℕ) → k < m → min (sums n f k) C ≡ min (sums n g k) C
+  capped-sums zero m f g h k l = h k l
+  capped-sums (suc n) m f g h k l =
+      rw (sum-below (sums n f) k, sum-below (sums n g) k) (capped-below (suc k) (sums n f) (sums n g) (λ j i. capped-sums n m f g h j (omega arith)))
+
+  pub capped-stage : (n m : ℕ) (f x y : ℕ → ℕ) → ((k : ℕ) → k < m → min (x k) C ≡ min (sums n f k) C) → ((k : ℕ) → k < m → y k ≡ min (sumBelow (suc k) x) C)
+      → (k : ℕ) → k < m → min (y k) C ≡ min (sums (suc n) f k) C
+  capped-stage n m f x y g h k l =
+      rw (h k l, sum-below (sums n f) k) ((omega arith) ∙ capped-below (suc k) x (sums n f) (λ j i. g j (omega arith)))
+
+  pub capped-large : (a a′ b b′ : ℕ) → min a C ≡ min a′ C → min b C ≡ min b′ C → leb C (a + b) ≡ leb C (a′ + b′)
+  capped-large a a′ b b′ h k = go (leb C (a + b)) refl
+    where
+      go : (t : Bool) → leb C (a + b) ≡ t → t ≡ leb C (a′ + b′)
+      go true e = sym (le-leb C (a′ + b′) (omega (arith, leb-true C (a + b) e)))
+      go false e = sym (lt-leb C (a′ + b′) (omega (arith, leb-false C (a + b) e)))
+
+  pub capped-reaches : (a : ℕ) → leb C (min a C) ≡ leb C a
+  capped-reaches a = go (leb C a) refl
+    where
+      go : (t : Bool) → leb C a ≡ t → leb C (min a C) ≡ t
+      go true e = le-leb C (min a C) (omega (arith, leb-true C a e))
+      go false e = lt-leb C (min a C) (omega (arith, leb-false C a e))
+
+  pub capped-exact : (a a′ b b′ : ℕ) → min a C ≡ min a′ C → min b C ≡ min b′ C → a + b < C → (a ≡ a′) × (b ≡ b′)
+  capped-exact a a′ b b′ h k l = (omega arith, omega arith)

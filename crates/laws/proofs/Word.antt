@@ -1,5 +1,4 @@
 -- Words: sums modulo a base B, each law for every base.
---   plus z, minus z   == the two parts of an integer: z is plus z − minus z, and one of them is 0
 --   Congruent B r z   == r and z differ by a multiple of B
 -- In this file:
 --   residues of sums, negatives and differences (residue-add, residue-neg, residue-sub), which depend on residues alone (residue-cong-add,
@@ -8,35 +7,31 @@
 --   two's complement reads back what it holds (signed-residue, residue-signed, signed-exact)
 --   two words: the sum of the low words with its carry (low-word), the sum of two pairs (pair-add), and that a pair is below the base's square
 --   and determines its words (pair-lt, pair-low, pair-high, pair-inj)
+--   two words of a number modulo the base's square (pair-words, words-unique, words-mod), the complement of a pair (pair-flip), the order of
+--   pairs (pair-less, pair-order, pair-order-low, pair-reaches, pair-large), the product of two words by their halves (halves-product)
+--   the product of a pair with a word: when it reaches H times the base (product-high, product-middle), and its words else (product-words)
 --   a signed word keeps the residue (wrap-residue), and the integer itself where it fits (wrap-exact)
 --   the machine's signed words are these residues (word-residue, word-signed), and its wrapping sum and difference those of the integers (wrap-add,
 --   wrap-sub, wrap-fits)
 -- Assumes nothing.
 use mathlib.Core.Path.{_≡_, refl, sym, ap, ap₂, _∙_}
+use mathlib.Core.Logic.{_≢_}
 use mathlib.Core.Bool.{Bool, true, false}
 use mathlib.Core.List.{List, [], _∷_}
 use Prim.Native.Nat.{ℕ, zero, suc, _+_, _*_, _-_, _%_, _/_, _^_, _≤_, _<_}
-use native.Mathlib.Nat.{mod-lt, mod-eq-of-lt, mod-mod, mod-add-mod, add-mod-mod, mod-add-div, add-mul-mod-self-left, add-mul-div-left, mod-eq-sub-mod, div-eq-of-lt, mul-le-mul-left}
+use native.Mathlib.Nat.{add-mul, mul-add, mul-sub, le-of-lt, mul-le-mul-right, mul-assoc, mul-left-comm, add-assoc, add-comm, add-left-comm, mod-lt, mod-eq-of-lt, mod-mod, mod-add-mod, add-mod-mod, mod-add-div, add-mul-mod-self-left, add-mul-div-left, mod-eq-sub-mod, div-eq-of-lt, mul-le-mul-left}
 use native.Mathlib.Omega.{arith}
 use lib.Arith.{mod-mul}
-use lib.Dec.{ltb}
+use lib.Dec.{leb, ltb}
 use lib.IntN.{ℤ, pos, negsuc, negℤ, subℕ, _+ℤ_, _-ℤ_, +ℤ-assoc, +ℤ-negℤ-cancel}
 use lib.Signed.{mag}
-use borrow.Author.Tests.{ltb-true, ltb-false, lt-ltb, le-ltb}
+use borrow.Author.Tests.{ltb-true, ltb-false, leb-true, leb-false, lt-ltb, le-ltb, le-leb, lt-leb}
 use mir.Syntax.{Width}
 use mir.Val.{bits, hbits, SFits, ofZ, toZ}
 use lib.Pow.{pow-pos}
 use mir.ValLaws.{pow-bits, toZ-fits}
 use Rattle.laws.specs.Numerator.{total}
-use Rattle.laws.specs.Word.{residue, signedOf, wrap, wrapped, pair, carry}
-
-abbrev plus : ℤ → ℕ
-plus (pos n) = n
-plus (negsuc n) = 0
-
-abbrev minus : ℤ → ℕ
-minus (pos n) = 0
-minus (negsuc n) = suc n
+use Rattle.laws.specs.Word.{plus, minus, residue, signedOf, wrap, wrapped, pair, carry}
 
 -- the parts of a difference of natural numbers
 difference-parts : (a b : ℕ) → plus (subℕ a b) + b ≡ a + minus (subℕ a b)
@@ -205,6 +200,92 @@ module _ (B : ℕ) where
       let s : ℕ = (a + c) % B in
       let sum : pair B a b + pair B c d ≡ pair B s (b + d + carry a s) = omega (arith, low-word B a c h k) in
       rw (sum, pair-mod s (b + d + carry a s) (mod-lt (a + c) (omega arith)))
+
+module _ (B : ℕ) (above : 0 < B) where
+  -- the two words of a number are the number modulo the base's square
+  pub pair-words : (v : ℕ) → pair B (v % B) (v / B % B) ≡ v % (B * B)
+  pair-words v = rw (mod-mul v above above) (omega arith)
+
+  -- two words that are a number modulo the base's square are its words
+  pub words-unique : (a b v : ℕ) → a < B → pair B a b ≡ v % (B * B) → (a ≡ v % B) × (b ≡ v / B % B)
+  words-unique a b v h e = pair-inj B a b (v % B) (v / B % B) h (mod-lt v above) (e ∙ sym (pair-words v))
+
+  -- numbers that are equal modulo the base's square have the same words
+  pub words-mod : (u v : ℕ) → u % (B * B) ≡ v % (B * B) → (u % B ≡ v % B) × (u / B % B ≡ v / B % B)
+  words-mod u v e = words-unique (u % B) (u / B % B) v (mod-lt u above) (pair-words u ∙ e)
+
+-- a pair and the pair of its complements make the base's square, less 1
+pub pair-flip : (B a b : ℕ) → a < B → b < B → pair B (B - 1 - a) (B - 1 - b) + 1 ≡ B * B - pair B a b
+pair-flip B a b h k =
+    let e : B * (B - 1 - b) ≡ B * (B - 1) - B * b = mul-sub B (B - 1) b in
+    let f : B * (B - 1) ≡ B * B - B * 1 = mul-sub B B 1 in
+    omega (arith, mul-le-mul-left B k)
+
+-- a greater high word makes a greater pair
+pub pair-less : (B a b c d : ℕ) → a < B → b < d → pair B a b < pair B c d
+pair-less B a b c d h k = omega (arith, mul-le-mul-left B k)
+
+-- pairs with different high words are in the order of these
+pub pair-order : (B a b c d : ℕ) → a < B → c < B → b ≢ d → ltb b d ≡ ltb (pair B a b) (pair B c d)
+pair-order B a b c d h k n = go (ltb b d) refl
+  where
+    go : (t : Bool) → ltb b d ≡ t → t ≡ ltb (pair B a b) (pair B c d)
+    go true e = sym (lt-ltb (pair B a b) (pair B c d) (pair-less B a b c d h (ltb-true b d e)))
+    go false e =
+        let l : d < b = omega (arith, ltb-false b d e) in
+        sym (le-ltb (pair B a b) (pair B c d) (omega (arith, pair-less B c d a b k l)))
+
+-- pairs with one high word are in the order of the low ones
+pub pair-order-low : (B a c d : ℕ) → ltb a c ≡ ltb (pair B a d) (pair B c d)
+pair-order-low B a c d = go (ltb a c) refl
+  where
+    go : (t : Bool) → ltb a c ≡ t → t ≡ ltb (pair B a d) (pair B c d)
+    go true e = sym (lt-ltb (pair B a d) (pair B c d) (omega (arith, ltb-true a c e)))
+    go false e = sym (le-ltb (pair B a d) (pair B c d) (omega (arith, ltb-false a c e)))
+
+-- a pair whose high word reaches H reaches H times the base
+pub pair-reaches : (B H a b : ℕ) → H ≤ b → B * H ≤ pair B a b
+pair-reaches B H a b h = omega (arith, mul-le-mul-left B h)
+
+-- and only such a pair does
+pub pair-large : (B H a b : ℕ) → a < B → leb H b ≡ leb (B * H) (pair B a b)
+pair-large B H a b h = go (leb H b) refl
+  where
+    go : (t : Bool) → leb H b ≡ t → t ≡ leb (B * H) (pair B a b)
+    go true e = sym (le-leb (B * H) (pair B a b) (pair-reaches B H a b (leb-true H b e)))
+    go false e = sym (lt-leb (B * H) (pair B a b) (omega (arith, mul-le-mul-left B (leb-false H b e))))
+
+-- the product of two numbers by their halves
+pub halves-product : (P a₀ a₁ b₀ b₁ : ℕ) → pair (P * P) (a₀ * b₀) (a₁ * b₁) + P * (a₀ * b₁) + P * (a₁ * b₀) ≡ pair P a₀ a₁ * pair P b₀ b₁
+halves-product P a₀ a₁ b₀ b₁ = simp (mul-add, add-mul, mul-assoc, mul-left-comm, add-assoc, add-comm, add-left-comm)
+
+-- the product of two words is below the base's square
+pub product-lt : (B a b : ℕ) → a < B → b < B → a * b < B * B
+product-lt B a b h k = omega (arith, mul-le-mul-left a (le-of-lt k), mul-le-mul-right B h)
+
+module _ (B H a b w : ℕ) (above : 0 < B) (half : H ≤ B) (small : b * w < B * B) where
+  high-words : pair B (b * w % B) (b * w / B % B) ≡ b * w
+  high-words = pair-words B above (b * w) ∙ mod-eq-of-lt small
+
+  reaches : H ≤ b * w → B * H ≤ pair B a b * w
+  reaches l = omega (arith, mul-le-mul-left B l)
+
+  -- where the high word's product has a high word
+  pub product-high : b * w / B % B ≢ 0 → B * H ≤ pair B a b * w
+  product-high n =
+      let l : 1 ≤ b * w / B % B = omega arith in
+      reaches (omega (arith, high-words, mul-le-mul-left B l))
+
+  -- where its low word reaches H
+  pub product-middle : H ≤ b * w % B → B * H ≤ pair B a b * w
+  product-middle l = reaches (omega (arith, high-words))
+
+  -- where it has no high word
+  pub product-words : a * w < B * B → b * w / B % B ≡ 0 → pair B (a * w % B) (a * w / B % B + b * w % B) ≡ pair B a b * w
+  product-words h z =
+      let e : pair B (a * w % B) (a * w / B % B) ≡ a * w = pair-words B above (a * w) ∙ mod-eq-of-lt h in
+      let f : b * w % B ≡ b * w = omega (arith, rw z at high-words) in
+      omega (arith, ap (λ (x : ℕ). B * x) f)
 
 module _ (w : Width) where
   -- the machine's bits of a signed word are the residue

@@ -1,4 +1,5 @@
 -- Words: numbers modulo a base B, which is 2^64 for one word and 2^128 for two.
+--   plus z, minus z   == the two parts of an integer: z is plus z − minus z, and one of them is 0
 --   residue B z       == the integer z modulo B, from 0 to B − 1: what wrapping sums keep of z
 --   signedOf B r      == the integer from −B/2 to B/2 − 1 that has the residue r: two's complement
 --   wrap B z          == the integer from −B/2 to B/2 − 1 that differs from z by a multiple of B: what a signed word keeps of z
@@ -13,6 +14,14 @@ use Prim.Native.Nat.{ℕ, suc, _+_, _*_, _-_, _%_, _/_}
 use lib.Dec.{ltb}
 use lib.IntN.{ℤ, pos, negsuc}
 use Rattle.laws.specs.Count.{bit}
+
+abbrev pub plus : ℤ → ℕ
+plus (pos n) = n
+plus (negsuc n) = 0
+
+abbrev pub minus : ℤ → ℕ
+minus (pos n) = 0
+minus (negsuc n) = suc n
 
 abbrev pub residue : ℕ → ℤ → ℕ
 residue B (pos n) = n % B

@@ -1,2 +1,6 @@
 -- Facts that belong to no one function.
 mod Bits
+mod TwoWords
+mod Capped
+mod Numbers
+mod Settled
