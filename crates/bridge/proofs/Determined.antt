@@ -14,6 +14,10 @@ use Rattle.bridge.proofs.monomial.pt_coprime.Reads as coprime
 use Rattle.bridge.proofs.monomial.pt_lex.Reads as lex
 use Rattle.bridge.proofs.monomial.pt_degrevlex.Reads as degrevlex
 use Rattle.bridge.proofs.mask.pt_mask.Reads as mask
+use Rattle.bridge.proofs.coefficients.pt_is_zero.Reads as is-zero
+use Rattle.bridge.proofs.coefficients.pt_coeff_degree.Reads as coeff-degree
+use Rattle.bridge.proofs.coefficients.pt_coeff.Reads as coeff
+use Rattle.bridge.proofs.hilbert.pt_hf_at.Reads as hf-at
 
 -- what equals the same is equal, in two places at once
 both : {A B : Type 0} {x x′ a : A} {y y′ b : B} → (x ≡ a) × (y ≡ b) → (x′ ≡ a) × (y′ ≡ b) → (x ≡ x′) × (y ≡ y′)
@@ -54,3 +58,15 @@ pt-degrevlex κs a r r′ s s′ p q = both p q
 
 pub pt-mask : (κs : Lfts 2) (a : _) (r r′ : ℕ) (s s′ : _) → mask.Post κs a r s → mask.Post κs a r′ s′ → (r ≡ r′) × (s .1 .1 .1 .0 .now ≡ s′ .1 .1 .1 .0 .now)
 pt-mask κs a r r′ s s′ p q = both p q
+
+pub pt-is-zero : (κs : Lfts 2) (a : _) (r r′ : ℕ) (s s′ : _) → is-zero.Post κs a r s → is-zero.Post κs a r′ s′ → (r ≡ r′) × (s .1 .0 .now ≡ s′ .1 .0 .now)
+pt-is-zero κs a r r′ s s′ p q = both p q
+
+pub pt-coeff-degree : (κs : Lfts 2) (a : _) (r r′ : ℕ) (s s′ : _) → coeff-degree.Post κs a r s → coeff-degree.Post κs a r′ s′ → (r ≡ r′) × (s .1 .0 .now ≡ s′ .1 .0 .now)
+pt-coeff-degree κs a r r′ s s′ p q = both p q
+
+pub pt-coeff : (κs : Lfts 2) (a : _) (r r′ : ℕ) (s s′ : _) → coeff.Post κs a r s → coeff.Post κs a r′ s′ → (r ≡ r′) × (s .1 .1 .0 .now ≡ s′ .1 .1 .0 .now)
+pt-coeff κs a r r′ s s′ p q = both p q
+
+pub pt-hf-at : (κs : Lfts 3) (a : _) (r r′ : ℕ) (s s′ : _) → hf-at.Post κs a r s → hf-at.Post κs a r′ s′ → (r ≡ r′) × ((s .1 .1 .1 .0 .now ≡ s′ .1 .1 .1 .0 .now) × (s .1 .1 .1 .1 .0 .now ≡ s′ .1 .1 .1 .1 .0 .now))
+pt-hf-at κs a r r′ s s′ p q = (p .0 ∙ sym (q .0), both (p .1) (q .1))

@@ -1,28 +1,12 @@
 -- How the bridge tells a call's answer: by document 01's number, and by the words that `values` then holds.
---   of.. a          == the answer a as its words, or its refusal
 --   numberIn t      == the number that is returned: 0, or the refusal's
 --   valuesIn t held == what `values` holds after the call, where it held `held`
+--   bitOf b         == 1 for true, 0 for false
 -- Assumes nothing.
-use mathlib.Core.Path.{_≡_, refl}
-use mathlib.Core.Bool.{Bool, true, false, cond}
+use mathlib.Core.Bool.{Bool, cond}
 use mathlib.Core.List.{List, [], _∷_}
 use Prim.Native.Nat.{ℕ}
-use Rattle.laws.specs.Monomial.{power}
 use Rattle.monomials.specs.Refusal.{number}
-use Rattle.monomials.specs.Monomial.{degreeAnswer, exponentAnswer, degrevlexAnswer}
-use Rattle.monomials.specs.Mask.{maskAnswer}
-use Rattle.monomials.specs.declared.refusal.Refusal.{Refusal}
-use Rattle.monomials.specs.declared.monomial.NumberOutcome.{NumberOutcome}
-use Rattle.monomials.specs.declared.monomial.NumberAnswer.{NumberAnswer}
-use Rattle.monomials.specs.declared.monomial.WriteOutcome.{WriteOutcome}
-use Rattle.monomials.specs.declared.monomial.WriteAnswer.{WriteAnswer}
-use Rattle.monomials.specs.declared.monomial.TestOutcome.{TestOutcome}
-use Rattle.monomials.specs.declared.monomial.TestAnswer.{TestAnswer}
-use Rattle.monomials.specs.declared.monomial.Order.{Order}
-use Rattle.monomials.specs.declared.monomial.OrderOutcome.{OrderOutcome}
-use Rattle.monomials.specs.declared.monomial.OrderAnswer.{OrderAnswer}
-use Rattle.monomials.specs.declared.divmask.MaskOutcome.{MaskOutcome}
-use Rattle.monomials.specs.declared.divmask.MaskAnswer.{MaskAnswer}
 use Rattle.bridge.specs.declared.told.Told.{Told}
 
 abbrev pub numberIn : Told → ℕ
@@ -33,62 +17,5 @@ abbrev pub valuesIn : Told → List ℕ → List ℕ
 valuesIn (Told.Done x y z) held = x ∷ y ∷ z ∷ 0 ∷ []
 valuesIn (Told.Refused r) held = held
 
-abbrev pub numberTold : NumberOutcome → Told
-numberTold (NumberOutcome.Value x) = Told.Done x 0 0
-numberTold (NumberOutcome.Refused r) = Told.Refused r
-
-abbrev pub ofNumber : NumberAnswer → Told
-ofNumber a = numberTold (a .outcome)
-
-abbrev pub writeTold : WriteOutcome → Told
-writeTold WriteOutcome.Written = Told.Done 0 0 0
-writeTold (WriteOutcome.Refused r) = Told.Refused r
-
-abbrev pub ofWrite : WriteAnswer → Told
-ofWrite a = writeTold (a .outcome)
-
 abbrev pub bitOf : Bool → ℕ
 bitOf b = cond b 1 0
-
-abbrev pub testTold : TestOutcome → Told
-testTold (TestOutcome.Value b) = Told.Done (bitOf b) 0 0
-testTold (TestOutcome.Refused r) = Told.Refused r
-
-abbrev pub ofTest : TestAnswer → Told
-ofTest a = testTold (a .outcome)
-
-abbrev pub orderWord : Order → ℕ
-orderWord Order.Less = 0
-orderWord Order.Equal = 1
-orderWord Order.Greater = 2
-
-abbrev pub orderTold : OrderOutcome → Told
-orderTold (OrderOutcome.Value o) = Told.Done (orderWord o) 0 0
-orderTold (OrderOutcome.Refused r) = Told.Refused r
-
-abbrev pub ofOrder : OrderAnswer → Told
-ofOrder a = orderTold (a .outcome)
-
-abbrev pub maskTold : MaskOutcome → Told
-maskTold (MaskOutcome.Value m) = Told.Done (m .low) (m .high) 0
-maskTold (MaskOutcome.Refused r) = Told.Refused r
-
-abbrev pub ofMask : MaskAnswer → Told
-ofMask a = maskTold (a .outcome)
-
-test-degree : valuesIn (ofNumber (degreeAnswer 255 (2 ∷ 3 ∷ []))) (9 ∷ 9 ∷ 9 ∷ 9 ∷ []) ≡ 5 ∷ 0 ∷ 0 ∷ 0 ∷ []
-test-degree = refl
-
--- a variable that is not there: number 4, and nothing is written
-test-exponent : numberIn (ofNumber (exponentAnswer 255 (2 ∷ 3 ∷ []) 2)) ≡ 4
-test-exponent = refl
-
-test-exponent-held : valuesIn (ofNumber (exponentAnswer 255 (2 ∷ 3 ∷ []) 2)) (9 ∷ 8 ∷ 7 ∷ 6 ∷ []) ≡ 9 ∷ 8 ∷ 7 ∷ 6 ∷ []
-test-exponent-held = refl
-
--- width 64, greatest exponent 4: exponent 3 in variable 32 sets bit 64 only
-test-mask : valuesIn (ofMask (maskAnswer 255 64 4 (power 64 32 3))) (9 ∷ 8 ∷ 7 ∷ 6 ∷ []) ≡ 0 ∷ 1 ∷ 0 ∷ 0 ∷ []
-test-mask = refl
-
-test-degrevlex : valuesIn (ofOrder (degrevlexAnswer 255 (1 ∷ 1 ∷ []) (2 ∷ 0 ∷ []))) (9 ∷ 8 ∷ 7 ∷ 6 ∷ []) ≡ 0 ∷ 0 ∷ 0 ∷ 0 ∷ []
-test-degrevlex = refl

@@ -1,15 +1,23 @@
 // Monomials as slices of exponents; `out` is the monomial that is written.
+use crate::told::Told;
+use crate::told::bit_of;
 use crate::told::number_in;
-use crate::told::of_number;
-use crate::told::of_order;
-use crate::told::of_test;
-use crate::told::of_write;
 use crate::told::tell;
+use monomials::monomial::NumberAnswer;
+use monomials::monomial::NumberOutcome;
+use monomials::monomial::Order;
+use monomials::monomial::OrderAnswer;
+use monomials::monomial::OrderOutcome;
+use monomials::monomial::TestAnswer;
+use monomials::monomial::TestOutcome;
+use monomials::monomial::WriteAnswer;
+use monomials::monomial::WriteOutcome;
 use monomials::refusal::MAX_EXPONENT;
 use monomials::refusal::MAX_WIDTH;
 ghost use mathlib.Core.Path.{_≡_};
 ghost use Rattle.monomials.specs.Monomial.{degreeAnswer, exponentAnswer, powerAnswer, productAnswer, quotientAnswer, lcmAnswer, gcdAnswer, dividesAnswer, coprimeAnswer, lexAnswer, degrevlexAnswer, powerCells, productCells, quotientCells, lcmCells, gcdCells};
-ghost use Rattle.bridge.specs.Told.{ofNumber, ofWrite, ofTest, ofOrder, numberIn, valuesIn};
+ghost use Rattle.bridge.specs.Told.{numberIn, valuesIn};
+ghost use Rattle.bridge.specs.Monomials.{orderWord, ofNumber, ofWrite, ofTest, ofOrder};
 
 // The degree of a.
 #[no_mangle]
@@ -111,4 +119,58 @@ pub extern "C" fn pt_degrevlex(a: &[u16], b: &[u16], values: &mut [u64; 4]) -> u
     ensures { λ _. do ⌜ now (values .exit) ≡ valuesIn (ofOrder (degrevlexAnswer (← ⟦MAX_WIDTH⟧ .entry) (now (a .entry)) (now (b .entry)))) (now (values .entry)) ⌝ }
 {
     tell(of_order(monomials::monomial::cmp_degrevlex(a, b)), values)
+}
+
+// The number.
+fn of_number(answer: NumberAnswer) -> Told
+    ensures { λ r. ⌜ r ≡ ofNumber answer ⌝ }
+{
+    let outcome = answer.outcome;
+    match outcome {
+        NumberOutcome::Value(x) => Told::Done(x, 0, 0),
+        NumberOutcome::Refused(refusal) => Told::Refused(refusal),
+    }
+}
+
+// Nothing but zeros.
+fn of_write(answer: WriteAnswer) -> Told
+    ensures { λ r. ⌜ r ≡ ofWrite answer ⌝ }
+{
+    let outcome = answer.outcome;
+    match outcome {
+        WriteOutcome::Written => Told::Done(0, 0, 0),
+        WriteOutcome::Refused(refusal) => Told::Refused(refusal),
+    }
+}
+
+// 1 for yes, 0 for no.
+fn of_test(answer: TestAnswer) -> Told
+    ensures { λ r. ⌜ r ≡ ofTest answer ⌝ }
+{
+    let outcome = answer.outcome;
+    match outcome {
+        TestOutcome::Value(b) => Told::Done(bit_of(b), 0, 0),
+        TestOutcome::Refused(refusal) => Told::Refused(refusal),
+    }
+}
+
+// 0 for less, 1 for equal, 2 for greater.
+fn of_order(answer: OrderAnswer) -> Told
+    ensures { λ r. ⌜ r ≡ ofOrder answer ⌝ }
+{
+    let outcome = answer.outcome;
+    match outcome {
+        OrderOutcome::Value(order) => Told::Done(order_word(order), 0, 0),
+        OrderOutcome::Refused(refusal) => Told::Refused(refusal),
+    }
+}
+
+fn order_word(order: Order) -> u64
+    ensures { λ r. ⌜ r ≡ orderWord order ⌝ }
+{
+    match order {
+        Order::Less => 0,
+        Order::Equal => 1,
+        Order::Greater => 2,
+    }
 }

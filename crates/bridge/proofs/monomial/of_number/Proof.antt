@@ -1,7 +1,7 @@
 -- `of_number` meets its contract, case by case.
 use borrow.Author.Needs.{needs}
-use Rattle.bridge.proofs.told.of_number.Statement.{statement}
-use Rattle.bridge.proofs.told.of_number.Tie as tie
+use Rattle.bridge.proofs.monomial.of_number.Statement.{statement}
+use Rattle.bridge.proofs.monomial.of_number.Tie as tie
 
 pub of-number-spec : {M : Type 1} → statement M
 of-number-spec =

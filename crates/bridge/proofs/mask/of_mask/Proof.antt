@@ -1,7 +1,7 @@
 -- `of_mask` meets its contract, case by case.
 use borrow.Author.Needs.{needs}
-use Rattle.bridge.proofs.told.of_mask.Statement.{statement}
-use Rattle.bridge.proofs.told.of_mask.Tie as tie
+use Rattle.bridge.proofs.mask.of_mask.Statement.{statement}
+use Rattle.bridge.proofs.mask.of_mask.Tie as tie
 
 pub of-mask-spec : {M : Type 1} → statement M
 of-mask-spec =

@@ -1,7 +1,7 @@
 -- `of_order` meets its contract, case by case.
 use borrow.Author.Needs.{needs}
-use Rattle.bridge.proofs.told.of_order.Statement.{statement}
-use Rattle.bridge.proofs.told.of_order.Tie as tie
+use Rattle.bridge.proofs.monomial.of_order.Statement.{statement}
+use Rattle.bridge.proofs.monomial.of_order.Tie as tie
 
 pub of-order-spec : {M : Type 1} → statement M
 of-order-spec =

@@ -1,7 +1,7 @@
 -- `of_test` meets its contract, case by case.
 use borrow.Author.Needs.{needs}
-use Rattle.bridge.proofs.told.of_test.Statement.{statement}
-use Rattle.bridge.proofs.told.of_test.Tie as tie
+use Rattle.bridge.proofs.monomial.of_test.Statement.{statement}
+use Rattle.bridge.proofs.monomial.of_test.Tie as tie
 
 pub of-test-spec : {M : Type 1} → statement M
 of-test-spec =

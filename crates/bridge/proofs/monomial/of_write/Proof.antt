@@ -1,7 +1,7 @@
 -- `of_write` meets its contract, case by case.
 use borrow.Author.Needs.{needs}
-use Rattle.bridge.proofs.told.of_write.Statement.{statement}
-use Rattle.bridge.proofs.told.of_write.Tie as tie
+use Rattle.bridge.proofs.monomial.of_write.Statement.{statement}
+use Rattle.bridge.proofs.monomial.of_write.Tie as tie
 
 pub of-write-spec : {M : Type 1} → statement M
 of-write-spec =
