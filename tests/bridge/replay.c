@@ -6,6 +6,7 @@
 
 #define LONGEST 65536
 #define MOST 1024
+#define WORDS 262152
 #define BESIDE 8
 
 /* The rest of the line that is read. */
@@ -24,6 +25,18 @@ struct cells {
 static struct cells cells(void) {
     struct cells c = {number(), {0}};
     for (size_t i = 0; i < c.len; i++) c.at[i] = (uint16_t)number();
+    return c;
+}
+
+/* A list of coefficients, as it is given. */
+struct coefficients {
+    size_t len;
+    int64_t at[MOST];
+};
+
+static struct coefficients coefficients(void) {
+    struct coefficients c = {number(), {0}};
+    for (size_t i = 0; i < c.len; i++) c.at[i] = (int64_t)number();
     return c;
 }
 
@@ -111,6 +124,51 @@ static int mask(void) {
     return told(pt_mask(n, max_deg, exps.at, exps.len, lend_values(&v)), &v, 2);
 }
 
+static int is_zero(void) {
+    struct values v;
+    struct coefficients c = coefficients();
+    return told(pt_is_zero(c.at, c.len, lend_values(&v)), &v, 1);
+}
+
+static int coeff_degree(void) {
+    struct values v;
+    struct coefficients c = coefficients();
+    return told(pt_coeff_degree(c.at, c.len, lend_values(&v)), &v, 2);
+}
+
+static int coeff(void) {
+    struct values v;
+    struct coefficients c = coefficients();
+    return told(pt_coeff(c.at, c.len, number(), lend_values(&v)), &v, 1);
+}
+
+/* The sum room: zero in its first `wiped` words, else its pattern; the words beside it are untouched. */
+static uint64_t sums[WORDS + 2 * BESIDE];
+
+static void lend_sums(size_t len) {
+    for (size_t i = 0; i < WORDS + 2 * BESIDE; i++) sums[i] = i < BESIDE || i >= BESIDE + len ? 7 : pattern(i - BESIDE);
+}
+
+static int sums_are(size_t len, size_t wiped) {
+    for (size_t i = 0; i < WORDS + 2 * BESIDE; i++) {
+        int inside = i >= BESIDE && i < BESIDE + len;
+        uint64_t word = !inside ? 7 : i < BESIDE + wiped ? 0 : pattern(i - BESIDE);
+        if (sums[i] != word) return 0;
+    }
+    return 1;
+}
+
+static int hf_at(void) {
+    struct values v;
+    uint64_t n = number();
+    struct coefficients c = coefficients();
+    uint64_t d = number();
+    size_t len = number();
+    lend_sums(len);
+    uint8_t answer = pt_hf_at(n, c.at, c.len, d, sums + BESIDE, len, lend_values(&v));
+    return told(answer, &v, 2) && sums_are(len, answer == 0 || answer == 11 ? 4 * (d + 1) : 0);
+}
+
 /* 1 right, 0 wrong, -1 no such call here. */
 static int replayed(uint64_t code) {
     switch (code) {
@@ -126,6 +184,10 @@ static int replayed(uint64_t code) {
     case 10: return value_pair(pt_lex);
     case 11: return value_pair(pt_degrevlex);
     case 12: return mask();
+    case 23: return hf_at();
+    case 25: return is_zero();
+    case 26: return coeff_degree();
+    case 27: return coeff();
     default: return -1;
     }
 }
