@@ -8,12 +8,11 @@
 --   trim-end-zero, trim-end                        of a list that ends in 0, and of one that does not, the rest being the first n places
 use mathlib.Core.Path.{_≡_, refl, sym, ap, ap₂, _∙_}
 use mathlib.Core.Logic.{_≢_}
-use mathlib.Core.Bool.{Bool, true, false}
 use mathlib.Core.List.{List, [], _∷_, _++_}
 use Prim.Native.Nat.{ℕ, zero, suc, _+_, _-_, _≤_, _<_}
 use native.Mathlib.Omega.{arith}
 use native.Mathlib.Nat.{zero-add, suc-add}
-use lib.IntN.{ℤ, pos, negsuc, _+ℤ_, _-ℤ_, pos-ne-negsuc}
+use lib.IntN.{ℤ, pos, negsuc, _-ℤ_, pos-ne-negsuc}
 use lib.ListN.{length, take, length-append}
 use lib.Seq.{take-suc, length-take-le}
 use Rattle.laws.specs.Coefficients.{coefficient, Trimmed, trimCons, trim, first, one, shift}

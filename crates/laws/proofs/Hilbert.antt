@@ -1,6 +1,7 @@
 -- The Hilbert function's value by binomials.
 --   hilbert-sums       Σ p_k · C(d − k + n − 1, n − 1) is the n-fold sum of p at d, for any p and any n
 --   hilbert-size-sums  the same for the magnitudes, n ≥ 1
+--   hilbert-size       the value's magnitude is at most the sum of the magnitudes, n ≥ 1
 --   hilbert-numerator  of a numerator: HF(d)
 use mathlib.Core.Path.{_≡_, refl, sym, ap, ap₂, _∙_}
 use mathlib.Core.List.{List}
@@ -13,9 +14,10 @@ use Rattle.laws.specs.Count.{HF}
 use Rattle.laws.specs.Coefficients.{coefficient}
 use Rattle.laws.specs.Sums.{sum, sums, sumℤ, sumsℤ}
 use Rattle.laws.specs.Numerator.{numerator}
+use Rattle.laws.specs.Word.{plus, minus}
 use Rattle.laws.specs.Hilbert.{binomial, hilbert, hilbertSize}
-use Rattle.laws.proofs.Integer.{mul-add, add-swap, pos-injective}
-use Rattle.laws.proofs.Sums.{sum-ext, pos-sum, pos-sums}
+use Rattle.laws.proofs.Integer.{mul-add, add-swap, pos-injective, abs-sub}
+use Rattle.laws.proofs.Sums.{sum-ext, pos-sum, pos-sums, sums-parts, sums-size}
 use Rattle.laws.proofs.Counting.{numerator-counts}
 
 -- the polynomial f times the series with the coefficients g
@@ -118,6 +120,11 @@ hilbert-size-sums p r d =
   where
     size : ℕ → ℕ
     size k = natAbs (coefficient p k)
+
+pub hilbert-size : (p : List ℤ) (r d : ℕ) → natAbs (hilbert p (suc r) d) ≤ hilbertSize p (suc r) d
+hilbert-size p r d =
+    rw (hilbert-sums p (suc r) d, sums-parts (suc r) (coefficient p) d, hilbert-size-sums p r d, sums-size (suc r) (coefficient p) d)
+    (abs-sub (pos (sums (suc r) (λ k. plus (coefficient p k)) d)) (pos (sums (suc r) (λ k. minus (coefficient p k)) d)))
 
 pub hilbert-numerator : (n : ℕ) (L : List (List ℕ)) (d : ℕ) → Within n L → hilbert (numerator L) n d ≡ pos (HF L n d)
 hilbert-numerator n L d w = hilbert-sums (numerator L) n d ∙ numerator-counts n L d w

@@ -1,7 +1,7 @@
 -- Two-word numbers held down to 2^127. Assumes nothing.
-use mathlib.Core.Path.{_≡_, sym, ap, _∙_}
-use mathlib.Core.Bool.{Bool, true, false}
-use Prim.Native.Nat.{ℕ, _+_, _%_, _^_, _<_, _≤_, suc-le-suc}
+use mathlib.Core.Path.{_≡_, sym, ap}
+use mathlib.Core.Bool.{true, false}
+use Prim.Native.Nat.{ℕ, _+_, _^_, _<_, _≤_, suc-le-suc}
 use native.Mathlib.Nat.{le-trans, le-add-right, le-add-left, mod-le, min-eq-left, min-eq-right, min-le-right, le-of-lt}
 use native.Mathlib.Omega.{arith}
 use lib.Dec.{leb, lit≤}
@@ -9,7 +9,6 @@ use borrow.Author.Tests.{leb-true, leb-false}
 use Rattle.laws.proofs.Sums.{capped-reaches}
 use Rattle.numbers.specs.Wide.{value, wide}
 use Rattle.numbers.specs.HilbertParts.{capped}
-use Rattle.numbers.specs.declared.wide.Wide.{Wide}
 use Rattle.numbers.proofs.TwoWords.{words, value-wide, value-exact}
 
 sum-lt : (H a b : ℕ) → a < H → b < H → a + b < H + H

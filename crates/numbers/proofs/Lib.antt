@@ -4,3 +4,6 @@ mod TwoWords
 mod Capped
 mod Numbers
 mod Settled
+mod NumeratorCall
+pub mod SignedValue
+pub mod DeterminedHilbert

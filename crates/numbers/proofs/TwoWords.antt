@@ -1,7 +1,7 @@
 -- Two-word numbers: the laws of pairs at the base 2^64, over `value` and `wide`. Assumes nothing.
-use mathlib.Core.Path.{_≡_, refl, sym, ap, ap₂, _∙_}
+use mathlib.Core.Path.{_≡_, sym, ap, ap₂, _∙_}
 use mathlib.Core.Logic.{_≢_}
-use mathlib.Core.Bool.{Bool, true, false, cond}
+use mathlib.Core.Bool.{true, false}
 use Prim.Native.Nat.{ℕ, suc, _+_, _*_, _-_, _%_, _/_, _^_, _<_, _≤_}
 use native.Mathlib.Nat.{le-trans, le-add-right, mul-le-mul-right, mod-add-div, mod-eq-of-lt, mod-lt, mod-mod, mod-add-mod, add-mod-mod}
 use lib.Dec.{leb, ltb, lit<, lit≤}

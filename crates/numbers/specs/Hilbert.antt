@@ -7,12 +7,11 @@
 --   hilbertAnswer      == the answer
 --   hilbertRoom        == the sum room after the call: zero in its asked part, unless one of 1, 10, 9 refused
 -- Assumes nothing.
-use mathlib.Core.Path.{_≡_, refl}
 use mathlib.Core.List.{List, [], _∷_, _++_}
 use mathlib.Core.Option.{Option, none, some}
 use Prim.Native.Nat.{ℕ, _^_}
 use lib.Dec.{leb, ltb}
-use lib.IntN.{ℤ, pos, negsuc}
+use lib.IntN.{ℤ}
 use lib.ListN.{length, replicate, drop}
 use Rattle.laws.specs.Hilbert.{hilbert, hilbertSize}
 use Rattle.laws.specs.Room.{hilbertWords}

@@ -3,3 +3,4 @@ pub mod Wide
 pub mod Coefficients
 pub mod Hilbert
 pub mod HilbertParts
+pub mod Numerator

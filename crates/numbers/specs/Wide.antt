@@ -6,10 +6,10 @@
 --   productAnswer v    == the product v where it is below 2^127, else that it passed
 -- Assumes nothing.
 use mathlib.Core.Path.{_≡_, refl}
-use mathlib.Core.Bool.{Bool, true, false, cond}
+use mathlib.Core.Bool.{cond}
 use Prim.Native.Nat.{ℕ, _-_, _%_, _/_, _^_}
 use lib.Dec.{ltb}
-use lib.IntN.{ℤ, pos, negsuc}
+use lib.IntN.{ℤ, negsuc}
 use Rattle.laws.specs.Word.{residue, signedOf, pair}
 use Rattle.numbers.specs.declared.wide.Wide.{Wide}
 use Rattle.numbers.specs.declared.wide.Product.{Product}

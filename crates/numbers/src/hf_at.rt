@@ -107,10 +107,10 @@ fn stages(n: usize, count: usize, words: &mut [u64])
     requires { ⌜ length (now words) ≡ 2 * count ⌝ }
     ensures { λ _. ⌜ ((k : ℕ) → k < count → capped (numberAt (now (words .exit)) k) ≡ capped (sums n (numberAt (now (words .entry))) k)) ⌝ }
 {
-    let mut i: usize = 0;
-    while i < n {
+    let mut done: usize = 0;
+    while done < n {
         stage(count, words);
-        i += 1;
+        done += 1;
     }
 }
 

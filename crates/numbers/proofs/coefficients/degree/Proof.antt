@@ -1,10 +1,9 @@
-use mathlib.Core.Path.{_≡_, ap}
+use mathlib.Core.Path.{_≡_}
 use mathlib.Core.Logic.{_≢_}
 use Prim.Native.Nat.{ℕ, zero, suc, _-_}
 use native.Mathlib.Omega.{arith}
 use Rattle.numbers.specs.Coefficients.{degreeAt}
 use Rattle.numbers.specs.declared.coefficients.DegreeOutcome.{DegreeOutcome}
-use Rattle.numbers.specs.declared.coefficients.DegreeAnswer.{DegreeAnswer}
 use borrow.Author.Needs.{needs}
 use Rattle.numbers.proofs.coefficients.degree.Statement.{statement}
 use Rattle.numbers.proofs.coefficients.degree.Tie as tie

@@ -1,4 +1,4 @@
-use mathlib.Core.Path.{_∙_, sym, ap}
+use mathlib.Core.Path.{_∙_, sym}
 use Prim.Native.Nat.{_+_}
 use Rattle.numbers.specs.Wide.{value}
 use Rattle.numbers.proofs.Capped.{wide-reaches}

@@ -16,12 +16,12 @@ hf-at-spec =
     (tie.spec
     (λ c κs. search needs)
     (λ c. let a = c .before .before .before .args in
-    let e = lt-ltb 255 (a .n) (c .before .if1 .taken) in
+    let e = lt-ltb _ (a .n) (c .before .if1 .taken) in
     (rw e (c .refused .ensures), rw e))
     (λ c κs. search needs)
     (λ c. let a = c .before .before .before .before .args in
-    let e = le-ltb 255 (a .n) (c .before .before .if1 .left) in
-    let f = lt-ltb 65536 (a .d) (c .before .if2 .taken) in
+    let e = le-ltb _ (a .n) (c .before .before .if1 .left) in
+    let f = lt-ltb _ (a .d) (c .before .if2 .taken) in
     (rw (e, f) (c .refused2 .ensures), rw (e, f)))
     (λ c. search needs)
     (λ c. search needs)
@@ -29,8 +29,8 @@ hf-at-spec =
     (λ c. search needs)
     (λ c κs. search needs)
     (λ c. let a = c .before .before .before .before .before .args in
-    let e = le-ltb 255 (a .n) (c .before .before .before .if1 .left) in
-    let f = le-ltb 65536 (a .d) (c .before .before .if2 .left) in
+    let e = le-ltb _ (a .n) (c .before .before .before .if1 .left) in
+    let f = le-ltb _ (a .d) (c .before .before .if2 .left) in
     let g = lt-ltb (length (a .sums .now)) (4 * (a .d + 1)) (c .before .if3 .taken) in
     (rw (e, f, g) (c .refused3 .ensures), rw (e, f, g)))
     (λ c. search needs)
@@ -46,7 +46,7 @@ hf-at-spec =
     (λ c κs. search needs)
     (λ c. search needs)
     (λ c. let a = c .before .before .before .before .before .before .before .before .before .before .before .before .before .before .before .before .before .args in
-    let e = le-ltb 255 (a .n) (c .before .before .before .before .before .before .before .before .before .before .before .before .before .before .before .if1 .left) in
-    let f = le-ltb 65536 (a .d) (c .before .before .before .before .before .before .before .before .before .before .before .before .before .before .if2 .left) in
+    let e = le-ltb _ (a .n) (c .before .before .before .before .before .before .before .before .before .before .before .before .before .before .before .if1 .left) in
+    let f = le-ltb _ (a .d) (c .before .before .before .before .before .before .before .before .before .before .before .before .before .before .if2 .left) in
     let g = le-ltb (length (a .sums .now)) (4 * (a .d + 1)) (c .before .before .before .before .before .before .before .before .before .before .before .before .before .if3 .left) in
     (rw (e, f, g, c .difference .ensures) (settled (a .coeffs .now) (a .d) (c .before .before .before .before .before .before .before .before .before .before .before .sum-part .ensures .1) (c .before .before .before .before .before .before .before .sum-part2 .ensures .1) (a .n) (value (c .before .before .before .before .before .before .before .before .before .before .before .sum-part .result)) (value (c .before .before .before .before .before .before .before .sum-part2 .result)) (c .before .before .before .before .before .before .before .before .before .before .before .sum-part .ensures .0) (c .before .before .before .before .before .before .before .sum-part2 .ensures .0)), rw (e, f, g) (c .before .before .before .wipe .ensures ∙ ap (λ (l : List ℕ). replicate (4 * (a .d + 1)) 0 ++ l) (past-parts (a .sums .now) (c .before .before .before .before .before .before .before .before .before .before .before .sum-part .last .1 .1 .1 .1 .0) (c .before .before .before .before .before .before .before .sum-part2 .last .1 .1 .1 .1 .0) (2 * (a .d + 1)) (4 * (a .d + 1)) (search needs) (search needs) (search needs) (search needs))))))

@@ -1,4 +1,3 @@
-use mathlib.Core.Path.{_∙_}
 use mir.Facts.{toZ-ofZ}
 use Rattle.numbers.proofs.Bits.{yes, no}
 use borrow.Author.Needs.{needs}

@@ -1,4 +1,4 @@
-use mathlib.Core.Path.{_≡_, _∙_, ap}
+use mathlib.Core.Path.{_∙_, ap}
 use Prim.Native.Nat.{_+_, _^_}
 use native.Mathlib.Omega.{arith}
 use Rattle.laws.proofs.Sums.{capped-sums}

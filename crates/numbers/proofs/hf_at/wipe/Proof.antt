@@ -1,9 +1,9 @@
-use mathlib.Core.Path.{_≡_, _∙_}
+use mathlib.Core.Path.{_≡_}
 use mathlib.Core.List.{_++_}
 use Prim.Native.Nat.{_-_, _≤_}
 use native.Mathlib.Omega.{arith}
 use lib.ListN.{length, replicate, drop}
-use borrow.Author.Fill.{fill-none, fill-more}
+use borrow.Author.Fill.{fill-more}
 use borrow.Author.Needs.{needs}
 use Rattle.numbers.proofs.hf_at.wipe.Statement.{statement}
 use Rattle.numbers.proofs.hf_at.wipe.Tie as tie

@@ -1,4 +1,3 @@
-use mathlib.Core.Path.{_∙_}
 use lib.Signed.{mag}
 use mir.Facts.{toZ-ofZ}
 use Rattle.numbers.proofs.Bits.{small, yes, no}

@@ -1,4 +1,3 @@
-use native.Mathlib.Omega.{arith}
 use Rattle.numbers.proofs.TwoWords.{times-high, times-low, times-middle, times-top, times-exact, times-carry}
 use borrow.Author.Needs.{needs}
 use Rattle.numbers.proofs.wide.Wide.times.Statement.{statement}

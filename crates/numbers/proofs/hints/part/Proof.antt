@@ -1,0 +1,30 @@
+use Prim.Native.Nat.{_-_, _≤_}
+use borrow.Author.Needs.{needs}
+use Rattle.numbers.proofs.hints.part.Statement.{statement}
+use Rattle.numbers.proofs.hints.part.Tie as tie
+
+abbrev Inv-loop : tie.InvT-loop
+Inv-loop s all sh a₀ i₀ a i = i ≤ 64
+
+abbrev μ-loop : tie.MeasureT-loop
+μ-loop s all sh a₀ i₀ a i = 64 - i
+
+pub part-spec : {M : Type 1} → statement M
+part-spec =
+    tie.close
+    (tie.spec
+    Inv-loop
+    μ-loop
+    (λ c κs. search needs)
+    (λ c κs. search needs)
+    (λ c. search needs)
+    (λ c. search needs)
+    (λ c κs. search needs)
+    (λ c. search needs)
+    (λ c κs. search needs)
+    (λ c. search needs)
+    (λ c. search needs)
+    (λ c. search needs)
+    (λ c. search needs)
+    (λ c. search needs)
+    (λ c. search needs))

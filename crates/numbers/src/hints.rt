@@ -1,0 +1,140 @@
+// Hints for the engine: a word of bits for each variable, bit i set where monomial i has it. Nothing is promised of the bits: what they
+// suggest is tested where it is used.
+use crate::leaf::least;
+ghost use Prim.Native.Nat.{_*_, _≤_};
+ghost use lib.ListN.{length};
+
+// What the bits suggest: a part with no variable in common with the rest (0 for none), the most frequent variable, and the monomials that have it.
+pub(crate) struct Hint {
+    pub(crate) part: u64,
+    pub(crate) v: usize,
+    pub(crate) having: u64,
+}
+
+// The bit, where x is not 0.
+fn bit_if(x: u16, bit: u64) -> u64 {
+    if x > 0 { bit } else { 0 }
+}
+
+// The bit set for each variable of the row.
+fn mark(s: &mut [u64], row: &[u16], bit: u64) {
+    let w = least(s.len(), row.len());
+    let mut v: usize = 0;
+    while v < w {
+        let x = bit_if(row[v], bit);
+        s[v] = s[v] | x;
+        v += 1;
+    }
+}
+
+// The bits of m monomials.
+fn marks(s: &mut [u64], room: &[u16], n: usize, m: usize)
+    requires { ⌜ m * n ≤ length (now room) ⌝ }
+{
+    let mut bit: u64 = 1;
+    let mut i: usize = 0;
+    while i < m {
+        let a = i * n;
+        let ae = a + n;
+        mark(s, &room[a..ae], bit);
+        bit = std::num::wrapping_add_u64(bit, bit);
+        i += 1;
+    }
+}
+
+// The monomials with a variable.
+fn unite(s: &[u64]) -> u64 {
+    let mut r: u64 = 0;
+    let mut v: usize = 0;
+    while v < s.len() {
+        r = r | s[v];
+        v += 1;
+    }
+    r
+}
+
+// x where two or more bits are set, else 0.
+fn many(x: u64) -> u64 {
+    if x & std::num::wrapping_sub_u64(x, 1) == 0 { 0 } else { x }
+}
+
+// The monomials that share a variable with another.
+fn shared(s: &[u64]) -> u64 {
+    let mut r: u64 = 0;
+    let mut v: usize = 0;
+    while v < s.len() {
+        r = r | many(s[v]);
+        v += 1;
+    }
+    r
+}
+
+// x where it has a bit in common with a, else 0.
+fn met(x: u64, a: u64) -> u64 {
+    if x & a == 0 { 0 } else { x }
+}
+
+// a and the monomials that share a variable with one of it, in one pass.
+fn grown(s: &[u64], a: u64) -> u64 {
+    let mut r: u64 = a;
+    let mut v: usize = 0;
+    while v < s.len() {
+        r = r | met(s[v], r);
+        v += 1;
+    }
+    r
+}
+
+// The most frequent variable.
+fn most(s: &[u64]) -> usize {
+    let mut best: usize = 0;
+    let mut count: u32 = 0;
+    let mut v: usize = 0;
+    while v < s.len() {
+        let c = u64::count_ones(s[v]);
+        if c > count {
+            count = c;
+            best = v;
+        }
+        v += 1;
+    }
+    best
+}
+
+// A set of monomials with no variable in common with the rest, 0 for none: those that share no variable at all, or what is connected to the first.
+fn part(s: &[u64]) -> u64 {
+    let all = unite(s);
+    let sh = shared(s);
+    if sh == 0 {
+        return 0;
+    }
+    if sh != all {
+        return all ^ sh;
+    }
+    let mut a = sh & std::num::wrapping_sub_u64(0, sh);
+    let mut i: usize = 0;
+    while i < 64 {
+        let b = grown(s, a);
+        if b == a {
+            return if a == all { 0 } else { a };
+        }
+        a = b;
+        i += 1;
+    }
+    0
+}
+
+// What one pass over m monomials suggests.
+pub(crate) fn look(room: &[u16], n: usize, m: usize) -> Hint
+    requires { ⌜ m * n ≤ length (now room) ⌝ }
+{
+    let mut s = [0u64; 256];
+    marks(&mut s, room, n, m);
+    let v = most(&s);
+    let mut having: u64 = 0;
+    if v < 256 {
+        having = s[v];
+    }
+    let p = part(&s);
+    Hint { part: p, v, having }
+}

@@ -1,0 +1,91 @@
+// Monomials that lie flat in lent cells, n exponents each.
+ghost use mathlib.Core.Logic.{_⊎_};
+ghost use mathlib.Core.Path.{_≡_};
+ghost use Prim.Native.Nat.{_+_, _*_, _<_, _≤_};
+ghost use lib.ListN.{length, getD, replicate};
+ghost use Rattle.laws.proofs.Rows.{Wrote, axis};
+ghost use Rattle.laws.proofs.Pass.{Swapped, Thinned};
+
+// n cells from `from` to `to`.
+pub(crate) fn copy_cells(room: &mut [u16], from: usize, to: usize, n: usize)
+    requires { ⌜ (from + n ≤ length (now room)) × (to + n ≤ length (now room)) ⌝ }
+    requires { ⌜ (to ≤ from) ⊎ (from + n ≤ to) ⌝ }
+    ensures { λ _. ⌜ Wrote (now (room .entry)) (λ j. getD (now (room .entry)) (from + j) 0) to n (now (room .exit)) ⌝ }
+{
+    let mut i: usize = 0;
+    while i < n {
+        let x = room[from + i];
+        room[to + i] = x;
+        i += 1;
+    }
+}
+
+// The cells, from `to` on.
+pub(crate) fn put_cells(room: &mut [u16], to: usize, cells: &[u16])
+    requires { ⌜ to + length (now cells) ≤ length (now room) ⌝ }
+    ensures { λ _. ⌜ Wrote (now (room .entry)) (λ j. getD (now (cells .entry)) j 0) to (length (now (cells .entry))) (now (room .exit)) ⌝ }
+{
+    let mut i: usize = 0;
+    while i < cells.len() {
+        room[to + i] = cells[i];
+        i += 1;
+    }
+}
+
+// Zeros.
+pub(crate) fn wipe(room: &mut [u16])
+    ensures { λ _. ⌜ now (room .exit) ≡ replicate (length (now (room .entry))) 0 ⌝ }
+{
+    let mut i: usize = 0;
+    while i < room.len() {
+        room[i] = 0;
+        i += 1;
+    }
+}
+
+// The exponent of variable j in variable v to the e.
+fn cell(j: usize, v: usize, e: u16) -> u16
+    ensures { λ r. ⌜ r ≡ getD (axis v e) j 0 ⌝ }
+{
+    if j == v { e } else { 0 }
+}
+
+// Variable v to the e, in n cells from `to`.
+pub(crate) fn put_power(room: &mut [u16], to: usize, n: usize, v: usize, e: u16)
+    requires { ⌜ to + n ≤ length (now room) ⌝ }
+    ensures { λ _. ⌜ Wrote (now (room .entry)) (λ j. getD (axis v e) j 0) to n (now (room .exit)) ⌝ }
+{
+    let mut i: usize = 0;
+    while i < n {
+        room[to + i] = cell(i, v, e);
+        i += 1;
+    }
+}
+
+// Monomials i and j, exchanged.
+fn swap(room: &mut [u16], n: usize, i: usize, j: usize)
+    requires { ⌜ (i < j) × ((j + 1) * n ≤ length (now room)) ⌝ }
+    ensures { λ _. ⌜ Swapped (i * n) (j * n) (now (room .entry)) n (now (room .exit)) ⌝ }
+{
+    let a = i * n;
+    let b = j * n;
+    let mut t: usize = 0;
+    while t < n {
+        let x = room[a + t];
+        let y = room[b + t];
+        room[a + t] = y;
+        room[b + t] = x;
+        t += 1;
+    }
+}
+
+// The same m monomials, number j exchanged with number i before it.
+pub(crate) fn exchange(room: &mut [u16], n: usize, m: usize, i: usize, j: usize)
+    requires { ⌜ (m * n ≤ length (now room)) × (j < m) ⌝ }
+    ensures { λ _. ⌜ Thinned n m (now (room .entry)) m (now (room .exit)) ⌝ }
+{
+    if i >= j {
+        return;
+    }
+    swap(room, n, i, j);
+}
