@@ -230,4 +230,3 @@ thinned-swap n m i j xs ys zs h l g s t =
 
 pub thinned-then : (n m : ℕ) (xs ys zs : List ℕ) → Thinned n m ys m zs → Thinned n m xs m ys → Thinned n m xs m zs
 thinned-then n m xs ys zs s t = record { len = s .len ∙ t .len; less = omega arith; same = λ u. s .same u ∙ t .same u }
-

@@ -7,3 +7,4 @@ mod Settled
 mod NumeratorCall
 pub mod SignedValue
 pub mod DeterminedHilbert
+pub mod DeterminedNumerator

@@ -1,5 +1,6 @@
 // The branch I + (p), p a power of one variable.
-use crate::rows::{copy_cells, put_power};
+use crate::rows::copy_cells;
+use crate::rows::put_power;
 ghost use Prim.Native.Nat.{_+_, _*_, _<_, _≤_};
 ghost use lib.ListN.{length};
 ghost use Rattle.laws.proofs.Branch.{Branched};

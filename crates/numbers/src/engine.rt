@@ -2,9 +2,11 @@
 // N(I) = N(I + (p)) + t^deg(p) N(I : p): the second branch is done in place, in a loop; the first is copied behind the list and has fewer
 // monomials, so the depth is at most their number.
 use crate::branch::sum_branch;
-use crate::few::{few, few_limit};
+use crate::few::few;
+use crate::few::few_limit;
 use crate::hints::look;
-use crate::leaf::{leaf, zero};
+use crate::leaf::leaf;
+use crate::leaf::zero;
 use crate::minimal::colon;
 use crate::parts::regroup;
 use crate::pivot::choose;
@@ -54,7 +56,16 @@ fn parts_in(
     zero(q);
     let w = q.len();
     let base = b * n;
-    add_numerator(&mut room[base..], n, a, 0, seed, level, q, &mut scratch[..w]);
+    add_numerator(
+        &mut room[base..],
+        n,
+        a,
+        0,
+        seed,
+        level,
+        q,
+        &mut scratch[..w],
+    );
     let r = trimmed(q);
     add_numerator(room, n, b, shift, &q[..r], level, out, scratch);
 }

@@ -1,5 +1,6 @@
 // Few monomials: N(L, a) = N(L) - t^deg(a) N(L : a), the last monomial first, the quotients written behind the list.
-use crate::leaf::{add_shifted, degree};
+use crate::leaf::add_shifted;
+use crate::leaf::degree;
 use crate::minimal::less;
 ghost use mathlib.Core.Bool.{Bool, true, _||_};
 ghost use mathlib.Core.List.{[]};

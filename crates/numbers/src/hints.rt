@@ -55,7 +55,11 @@ fn unite(s: &[u64]) -> u64 {
 
 // x where two or more bits are set, else 0.
 fn many(x: u64) -> u64 {
-    if x & std::num::wrapping_sub_u64(x, 1) == 0 { 0 } else { x }
+    if x & std::num::wrapping_sub_u64(x, 1) == 0 {
+        0
+    } else {
+        x
+    }
 }
 
 // The monomials that share a variable with another.

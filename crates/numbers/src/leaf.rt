@@ -125,7 +125,15 @@ pub(crate) fn zero(s: &mut [i64])
 }
 
 // The leaf, by way of a scratch that holds the whole product.
-fn leaf_in(room: &[u16], n: usize, m: usize, shift: usize, seed: &[i64], out: &mut [i64], scratch: &mut [i64])
+fn leaf_in(
+    room: &[u16],
+    n: usize,
+    m: usize,
+    shift: usize,
+    seed: &[i64],
+    out: &mut [i64],
+    scratch: &mut [i64],
+)
     requires { ⌜ (m * n ≤ length (now room)) × (n ≤ 65536) ⌝ }
     requires { ⌜ PairwiseCoprime (rows n m (now room)) ⌝ }
     requires { ⌜ Zeros (now scratch) × Past (now seed) n m (now room) (length (now scratch)) (length (now out)) ⌝ }
@@ -138,7 +146,15 @@ fn leaf_in(room: &[u16], n: usize, m: usize, shift: usize, seed: &[i64], out: &m
 }
 
 // t^shift times the seed times the numerator of a pairwise coprime list, added to out; scratch is left at zero.
-pub(crate) fn leaf(room: &[u16], n: usize, m: usize, shift: usize, seed: &[i64], out: &mut [i64], scratch: &mut [i64])
+pub(crate) fn leaf(
+    room: &[u16],
+    n: usize,
+    m: usize,
+    shift: usize,
+    seed: &[i64],
+    out: &mut [i64],
+    scratch: &mut [i64],
+)
     requires { ⌜ (m * n ≤ length (now room)) × (n ≤ 65536) ⌝ }
     requires { ⌜ PairwiseCoprime (rows n m (now room)) ⌝ }
     requires { ⌜ (length (now scratch) ≡ length (now out)) × Zeros (now scratch) ⌝ }

@@ -1,9 +1,12 @@
 // The numerator of a list. The rooms' asked sizes are those of the list as given; after a refusal every cell holds what it held.
-use crate::asked::{cells_asked, coefficients_asked};
-use crate::engine::{add_numerator, trimmed};
+use crate::asked::cells_asked;
+use crate::asked::coefficients_asked;
+use crate::engine::add_numerator;
+use crate::engine::trimmed;
 use crate::leaf::zero;
 use crate::minimal::minimalize;
-use crate::rows::{put_cells, wipe};
+use crate::rows::put_cells;
+use crate::rows::wipe;
 use monomials::refusal::MAX_COUNT;
 use monomials::refusal::MAX_WIDTH;
 use monomials::refusal::Refusal;
@@ -63,7 +66,14 @@ pub fn hilbert_numerator(
     if second.len() < k {
         return refused(Refusal::CoefficientRoom);
     }
-    let r = numerator_in(n, s, cells, &mut room[..c], &mut first[..k], &mut second[..k]);
+    let r = numerator_in(
+        n,
+        s,
+        cells,
+        &mut room[..c],
+        &mut first[..k],
+        &mut second[..k],
+    );
     LengthAnswer {
         outcome: LengthOutcome::Value(r),
     }

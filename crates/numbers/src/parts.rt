@@ -60,7 +60,14 @@ fn apart(room: &[u16], n: usize, b: usize, m: usize) -> bool
 }
 
 // The same monomials, a part last that has no variable in common with the rest; how many are in the rest, or 0 for no part.
-pub(crate) fn regroup(room: &mut [u16], n: usize, m: usize, part: u64, level: usize, w: usize) -> usize
+pub(crate) fn regroup(
+    room: &mut [u16],
+    n: usize,
+    m: usize,
+    part: u64,
+    level: usize,
+    w: usize,
+) -> usize
     requires { ⌜ m * n ≤ length (now room) ⌝ }
     ensures { λ r. ⌜ Regrouped n m level w (now (room .entry)) r (now (room .exit)) ⌝ }
 {

@@ -38,18 +38,18 @@ sum-branch-spec =
     (λ c. let p4 = c .before .before .before .before in let p6 = p4 .before .before in omega (arith, row-end (p6 .args .n) (p6 .args .m) (p4 .loop .k) (omega arith)))
     -- copy-cells-requires
     (λ c κs. let p4 = c .before .before .before .before in let p6 = p4 .before .before in let p = row-end (p6 .args .n) (p6 .args .m) (p4 .loop .i) (omega arith) in
-        let q = row-end (p6 .args .n) (p6 .args .m) (p4 .loop .k) (omega arith) in
-        let l = p4 .loop .inv .3 .len in
-        ((omega arith, omega arith), inr (omega arith)))
+    let q = row-end (p6 .args .n) (p6 .args .m) (p4 .loop .k) (omega arith) in
+    let l = p4 .loop .inv .3 .len in
+    ((omega arith, omega arith), inr (omega arith)))
     (λ c. search needs)
     (λ c. search needs)
     (λ c. search needs)
     -- loop-again
     (λ c. let p3 = c .before .before .before in let p5 = p3 .before .before in let s = p3 .loop .inv .3 in
-        let r = row-end (p5 .args .n) (p5 .args .m) (p3 .loop .i) (omega arith) in
-        let h = s .kept (p3 .loop .i * p5 .args .n + p5 .args .v) (omega arith) in
-        ⊎-elim (λ w. (omega arith, omega (arith, w .6), refl, rw (w .5, w .6) (summed-keep _ _ _ _ _ _ _ _ _ (p5 .pre .0) (omega arith) (omega arith) (omega (arith, w .0 .taken)) (w .2 .ensures) s)))
-        (λ w. (omega arith, omega (arith, w .2), refl, rw (w .1, w .2) (summed-skip _ _ _ _ _ _ _ _ (p5 .pre .1) (omega (arith, w .0 .left)) s))) (c .if1 .came))
+    let r = row-end (p5 .args .n) (p5 .args .m) (p3 .loop .i) (omega arith) in
+    let h = s .kept (p3 .loop .i * p5 .args .n + p5 .args .v) (omega arith) in
+    ⊎-elim (λ w. (omega arith, omega (arith, w .6), refl, rw (w .5, w .6) (summed-keep _ _ _ _ _ _ _ _ _ (p5 .pre .0) (omega arith) (omega arith) (omega (arith, w .0 .taken)) (w .2 .ensures) s)))
+    (λ w. (omega arith, omega (arith, w .2), refl, rw (w .1, w .2) (summed-skip _ _ _ _ _ _ _ _ (p5 .pre .1) (omega (arith, w .0 .left)) s))) (c .if1 .came))
     -- mul-put-power
     (λ c. let p2 = c .before .before in let p4 = p2 .before .before in let l = summed-less _ _ _ _ _ _ _ _ (omega arith) (omega arith) (p4 .pre .2) (p2 .loop .inv .3) in omega (arith, row-end (p4 .args .n) (p4 .args .m) (p2 .loop .k) (omega arith)))
     -- add-put-power

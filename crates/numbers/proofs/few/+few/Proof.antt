@@ -57,80 +57,84 @@ pub +few-spec : {M : Type 1} → statement M
     few-μ-loop
     -- few-returns
     (λ c.
-    let p2 = c .before .before in 
+    let p2 = c .before .before in
     added-none (p2 .args .seed .now) (p2 .args .n) (p2 .args .m) (p2 .args .shift) (p2 .args .neg) (p2 .args .room .now) (p2 .args .out .now) (p2 .pre .1 .1 (c .if1 .taken)))
     -- few-returns-2
     (λ c.
-    let p3 = c .before .before .before in 
+    let p3 = c .before .before .before in
     added-past (p3 .args .shift) (λ k. by (p3 .args .neg) (seeded (coefficient (p3 .args .seed .now)) [] (rows (p3 .args .n) (p3 .args .m) (p3 .args .room .now)) k)) (p3 .args .out .now) (omega (arith, c .if2 .taken)))
     (λ c. search needs)
     (λ c. search needs)
     -- few-mul-a
     (λ c.
-    let p1 = c .before in let p5 = p1 .before .before .before .before in 
+    let p1 = c .before in let p5 = p1 .before .before .before .before in
     omega (arith, row-end (p5 .args .n) (p1 .loop .left) (p1 .loop .left - 1) (omega arith), room-one (p5 .args .n) (p5 .args .m) (p1 .loop .left) (length (p5 .args .room .now)) (p1 .loop .inv .0) (p5 .pre .1 .0 .0), p1 .loop .inv .1))
     -- few-add-ae
     (λ c.
-    let p1 = c .before in let p5 = p1 .before .before .before .before in 
+    let p1 = c .before in let p5 = p1 .before .before .before .before in
     omega (arith, row-end (p5 .args .n) (p1 .loop .left) (p1 .loop .left - 1) (omega arith), room-one (p5 .args .n) (p5 .args .m) (p1 .loop .left) (length (p5 .args .room .now)) (p1 .loop .inv .0) (p5 .pre .1 .0 .0), p1 .loop .inv .1))
     -- few-mul-degree
     (λ c.
-    let p1 = c .before in let p5 = p1 .before .before .before .before in 
+    let p1 = c .before in let p5 = p1 .before .before .before .before in
     omega (arith, row-end (p5 .args .n) (p1 .loop .left) (p1 .loop .left - 1) (omega arith), room-one (p5 .args .n) (p5 .args .m) (p1 .loop .left) (length (p5 .args .room .now)) (p1 .loop .inv .0) (p5 .pre .1 .0 .0), p1 .loop .inv .1))
     (λ c. search needs)
     (λ c. search needs)
     -- few-part-degree-end
     (λ c.
-    let p2 = c .before .before in let p6 = p2 .before .before .before .before in 
+    let p2 = c .before .before in let p6 = p2 .before .before .before .before in
     omega (arith, row-end (p6 .args .n) (p2 .loop .left) (p2 .loop .left - 1) (omega arith), room-one (p6 .args .n) (p6 .args .m) (p2 .loop .left) (length (p6 .args .room .now)) (p2 .loop .inv .0) (p6 .pre .1 .0 .0), p2 .loop .inv .1))
     -- few-degree-requires
     (λ c κs.
-    let p3 = c .before .before .before in let p7 = p3 .before .before .before .before in 
+    let p3 = c .before .before .before in let p7 = p3 .before .before .before .before in
     rw (part-is (p7 .args .n) ((p3 .loop .left - 1) * p7 .args .n) (p3 .loop .room), length-take) (omega (arith, p7 .pre .1 .0 .1)))
     -- few-quotients-requires
     (λ c κs.
-    let p5 = c .before .before .before .before .before in let p9 = p5 .before .before .before .before in 
+    let p5 = c .before .before .before .before .before in let p9 = p5 .before .before .before .before in
     (omega (arith, few-two (p9 .args .n) (p9 .args .m) (p5 .loop .left - 1) (length (p9 .args .room .now)) (omega arith) (p9 .pre .1 .0 .0), p5 .loop .inv .1), p9 .pre .1 .0 .1))
     -- few-mul-few
     (λ c.
-    let p8 = c .before .before .before .before .before .before .before .before in let p12 = p8 .before .before .before .before in 
+    let p8 = c .before .before .before .before .before .before .before .before in let p12 = p8 .before .before .before .before in
     omega (arith, row-end (p12 .args .n) (p8 .loop .left) (p8 .loop .left - 1) (omega arith), room-one (p12 .args .n) (p12 .args .m) (p8 .loop .left) (length (p12 .args .room .now)) (p8 .loop .inv .0) (p12 .pre .1 .0 .0), p8 .loop .inv .1))
     -- few-sub-few
     (λ c.
-    let p2 = c .before .before in let p8 = p2 .before .before .before .before .before .before in let p12 = p8 .before .before .before .before in 
+    let p2 = c .before .before in let p8 = p2 .before .before .before .before .before .before in let p12 = p8 .before .before .before .before in
     omega (arith, p2 .quotients .ensures .len, row-end (p12 .args .n) (p8 .loop .left) (p8 .loop .left - 1) (omega arith), room-one (p12 .args .n) (p12 .args .m) (p8 .loop .left) (length (p12 .args .room .now)) (p8 .loop .inv .0) (p12 .pre .1 .0 .0), p8 .loop .inv .1))
     -- few-part-few-start
     (λ c.
-    let p2 = c .before .before in let p8 = p2 .before .before .before .before .before .before in let p12 = p8 .before .before .before .before in 
+    let p2 = c .before .before in let p8 = p2 .before .before .before .before .before .before in let p12 = p8 .before .before .before .before in
     omega (arith, p2 .quotients .ensures .len, row-end (p12 .args .n) (p8 .loop .left) (p8 .loop .left - 1) (omega arith), room-one (p12 .args .n) (p12 .args .m) (p8 .loop .left) (length (p12 .args .room .now)) (p8 .loop .inv .0) (p12 .pre .1 .0 .0), p8 .loop .inv .1))
     (λ c. search needs)
     (λ c. search needs)
     -- few-few-requires
     (λ c κs.
-    let p4 = c .before .before .before .before in let p6 = p4 .before .before in let p10 = p6 .before .before .before .before in let p11 = p10 .before in let p14 = p11 .before .before .before in 
+    let p4 = c .before .before .before .before in let p6 = p4 .before .before in let p10 = p6 .before .before .before .before in let p11 = p10 .before in let p14 = p11 .before .before .before in
     let n = p14 .args .n in
     let l = p10 .loop .left - 1 in
-    let b : (l + 1) * n ≡ l * n + n = omega (arith, suc-mul l n, add-one l) in
-    (omega (arith, p14 .pre .0, p10 .loop .inv .0),
-    ((part-enough (l * n + n) _ (p4 .quotients .last .0) (omega (arith, few-room n (p14 .args .m) l (length (p14 .args .room .now)) (omega arith) (p14 .pre .1 .0 .0), p4 .quotients .ensures .len, p10 .loop .inv .1)), p14 .pre .1 .0 .1, omega (arith, p6 .degree .ensures .1, p11 .if2 .left, p14 .good .1 .1 .1 .1 .1 .1 .1 .0)),
-    λ e. unit-none n l (p10 .loop .room) (p4 .quotients .last .0) (rw e at (p4 .quotients .ensures)))))
+    let b : (l + 1) * n ≡ l * n + n = omega (arith, suc-mul l n, add-one l) in (
+      omega (arith, p14 .pre .0, p10 .loop .inv .0),
+      (
+        (part-enough (l * n + n) _ (p4 .quotients .last .0) (omega (arith, few-room n (p14 .args .m) l (length (p14 .args .room .now)) (omega arith) (p14 .pre .1 .0 .0), p4 .quotients .ensures .len, p10 .loop .inv .1)), p14 .pre .1 .0 .1, omega (arith, p6 .degree .ensures .1, p11 .if2 .left, p14 .good .1 .1 .1 .1 .1 .1 .1 .0)),
+        λ e. unit-none n l (p10 .loop .room) (p4 .quotients .last .0) (rw e at (p4 .quotients .ensures)),
+      ),
+    ))
     (λ c. search needs)
     -- few-loop-again
     (λ c.
-    let p3 = c .before .before .before in let p8 = p3 .before .before .before .before .before in let p10 = p8 .before .before in let p14 = p10 .before .before .before .before in let p18 = p14 .before .before .before .before in 
+    let p3 = c .before .before .before in let p8 = p3 .before .before .before .before .before in let p10 = p8 .before .before in let p14 = p10 .before .before .before .before in let p18 = p14 .before .before .before .before in
     let n = p18 .args .n in
     let l = p14 .loop .left - 1 in
-    let b : l + 1 ≡ p14 .loop .left = omega arith in
-    (omega (arith, p14 .loop .inv .0),
-    put-length (l * n + n) (p8 .quotients .last .0) (p3 .few .last .0) (p3 .few .kept .0) ∙ p8 .quotients .ensures .len ∙ p14 .loop .inv .1,
-    running-more _ _ _ _ _ _ _
-    (few-step (p18 .args .seed .now) n l (p14 .loop .left) (p10 .degree .result) (p18 .args .shift) (p18 .args .neg) (p8 .quotients .result) (p14 .loop .room) (p8 .quotients .last .0) (p3 .few .last .0) b
-    (omega (arith, few-two n (p18 .args .m) l (length (p18 .args .room .now)) (omega (arith, p14 .loop .inv .0)) (p18 .pre .1 .0 .0), p14 .loop .inv .1)) (p10 .degree .ensures .0 ∙ ap degree (part-is n (l * n) (p14 .loop .room))) (p8 .quotients .ensures) (p3 .few .kept .0))
-    (p3 .few .ensures) (p14 .loop .inv .2)))
+    let b : l + 1 ≡ p14 .loop .left = omega arith in (
+      omega (arith, p14 .loop .inv .0),
+      put-length (l * n + n) (p8 .quotients .last .0) (p3 .few .last .0) (p3 .few .kept .0) ∙ p8 .quotients .ensures .len ∙ p14 .loop .inv .1,
+      running-more _ _ _ _ _ _ _
+          (few-step (p18 .args .seed .now) n l (p14 .loop .left) (p10 .degree .result) (p18 .args .shift) (p18 .args .neg) (p8 .quotients .result) (p14 .loop .room) (p8 .quotients .last .0) (p3 .few .last .0) b
+          (omega (arith, few-two n (p18 .args .m) l (length (p18 .args .room .now)) (omega (arith, p14 .loop .inv .0)) (p18 .pre .1 .0 .0), p14 .loop .inv .1)) (p10 .degree .ensures .0 ∙ ap degree (part-is n (l * n) (p14 .loop .room))) (p8 .quotients .ensures) (p3 .few .kept .0))
+          (p3 .few .ensures) (p14 .loop .inv .2),
+    ))
     (λ c κs. search needs)
     (λ c. search needs)
     (λ c. search needs)
     -- few-returns-3
     (λ c.
-    let p1 = c .before in let p4 = p1 .before .before .before in 
+    let p1 = c .before in let p4 = p1 .before .before .before in
     let e : p4 .loop .left ≡ 0 = omega arith in running-leaf _ _ _ _ _ (p1 .add-shifted .ensures) (rw e at (p4 .loop .inv .2)))

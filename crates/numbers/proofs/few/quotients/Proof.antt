@@ -52,9 +52,12 @@ quotients-spec =
     -- loop-again
     (λ c. let p1 = c .before in let p6 = p1 .before .before .before .before .before in let p9 = p6 .before .before .before in let p11 = p9 .before .before in let b = p9 .loop .inv .2 in
     let n = p11 .args .n in
-    let f = ap (λ (z : ℕ). z + p9 .loop .i * n) b in
-    (omega arith, refl, b,
-    quotients-more _ _ _ _ _ _ _ _ _ (p11 .pre .0) (omega arith) (rw f at (p6 .divide .ensures)) (p1 .degree .ensures .0 ∙ ap degree (part-is n (p11 .args .k * n + n + p9 .loop .i * n) (p6 .divide .last .0)) ∙ ap (λ (z : ℕ). degree (take n (drop z (p6 .divide .last .0)))) f) (c .either .ensures) (p9 .loop .inv .3)))
+    let f = ap (λ (z : ℕ). z + p9 .loop .i * n) b in (
+      omega arith,
+      refl,
+      b,
+      quotients-more _ _ _ _ _ _ _ _ _ (p11 .pre .0) (omega arith) (rw f at (p6 .divide .ensures)) (p1 .degree .ensures .0 ∙ ap degree (part-is n (p11 .args .k * n + n + p9 .loop .i * n) (p6 .divide .last .0)) ∙ ap (λ (z : ℕ). degree (take n (drop z (p6 .divide .last .0)))) f) (c .either .ensures) (p9 .loop .inv .3),
+    ))
     (λ c. search needs)
     -- returns
     (λ c. let p1 = c .before in let p3 = p1 .before .before in let e : p1 .loop .i ≡ p3 .args .k = omega arith in rw e at (p1 .loop .inv .3)))

@@ -23,6 +23,10 @@ leaf-spec =
     -- returns
     (λ c. let p2 = c .before .before in let p5 = p2 .before .before .before in let p7 = p5 .before .before in let s = p7 .args .scratch .now in
     let w = p5 .span .result in
-    let d = p2 .leaf-in .ensures in
-    (d .0, (length-front s (p2 .leaf-in .last .1 .1 .1 .1 .1 .1 .0) w (d .1 .0),
-    zeros-back s (p2 .leaf-in .last .1 .1 .1 .1 .1 .1 .0) w (d .1 .0 ∙ length-take-le w s (p5 .span .ensures .0)) (p7 .pre .1 .1 .1) (d .1 .1)))))
+    let d = p2 .leaf-in .ensures in (
+      d .0,
+      (
+        length-front s (p2 .leaf-in .last .1 .1 .1 .1 .1 .1 .0) w (d .1 .0),
+        zeros-back s (p2 .leaf-in .last .1 .1 .1 .1 .1 .1 .0) w (d .1 .0 ∙ length-take-le w s (p5 .span .ensures .0)) (p7 .pre .1 .1 .1) (d .1 .1),
+      ),
+    )))

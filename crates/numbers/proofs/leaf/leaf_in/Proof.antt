@@ -18,6 +18,7 @@ leaf-in-spec =
     (λ c. search needs)
     (λ c. search needs)
     -- returns
-    (λ c. let p1 = c .before in let p4 = p1 .before .before .before in let p8 = p4 .before .before .before .before in let p11 = p8 .before .before .before in let a = p11 .args in
-    (leaf-sums (a .seed .now) (a .n) (a .m) (a .shift) (a .room .now) (length (a .scratch .now)) (p8 .product .last .1 .1 .1 .1 .0) (a .out .now) (p4 .add-shifted .last .0) (p11 .pre .1 .1 .1) (p11 .pre .1 .0) (p8 .product .ensures) (p4 .add-shifted .ensures),
-    (p1 .zero .ensures .0 ∙ p8 .product .ensures .len, p1 .zero .ensures .1))))
+    (λ c. let p1 = c .before in let p4 = p1 .before .before .before in let p8 = p4 .before .before .before .before in let p11 = p8 .before .before .before in let a = p11 .args in (
+      leaf-sums (a .seed .now) (a .n) (a .m) (a .shift) (a .room .now) (length (a .scratch .now)) (p8 .product .last .1 .1 .1 .1 .0) (a .out .now) (p4 .add-shifted .last .0) (p11 .pre .1 .1 .1) (p11 .pre .1 .0) (p8 .product .ensures) (p4 .add-shifted .ensures),
+      (p1 .zero .ensures .0 ∙ p8 .product .ensures .len, p1 .zero .ensures .1),
+    )))

@@ -35,7 +35,7 @@ times-spec =
     (λ c. search needs)
     -- loop-again
     (λ c. let p1 = c .before in let p2 = p1 .before in let p4 = p2 .before .before in let e = rw (toZ-ofZ {w = w64} (sfits-of (p2 .x .given)), toZ-ofZ {w = w64} (sfits-of (p1 .y .given))) at (c .wrapping-sub .ensures) in
-        (omega arith, timing-more _ _ _ _ _ _ (omega arith) (omega arith) (omega arith) (toZ-ofZ {w = w64} (sfits-of (c .wrapping-sub .ok)) ∙ e) (p4 .loop .inv .1)))
+    (omega arith, timing-more _ _ _ _ _ _ (omega arith) (omega arith) (omega arith) (toZ-ofZ {w = w64} (sfits-of (c .wrapping-sub .ok)) ∙ e) (p4 .loop .inv .1)))
     -- same-length
     (λ c. let p1 = c .before in p1 .loop .inv .1 .len)
     -- returns

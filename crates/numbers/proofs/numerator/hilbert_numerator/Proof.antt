@@ -57,7 +57,7 @@ hilbert-numerator-spec =
     -- slice-aggregate-numerator-in-3
     (λ c. let p3 = c .before .before .before in let p5 = p3 .before .before in let p15 = p5 .before .before .before .before .before .before .before .before .before .before in sym (length-take-le (p5 .coefficients-asked .result) (p15 .args .second .now) (p3 .if6 .left)))
     -- numerator-in-requires
-    (λ c κs. let p3 = c .before .before .before in let p4 = p3 .before in let p5 = p4 .before in let p7 = p5 .before .before in let p8 = p7 .before in let p10 = p8 .before .before in let p11 = p10 .before in let p12 = p11 .before in let p15 = p12 .before .before .before in 
+    (λ c κs. let p3 = c .before .before .before in let p4 = p3 .before in let p5 = p4 .before in let p7 = p5 .before .before in let p8 = p7 .before in let p10 = p8 .before .before in let p11 = p10 .before in let p12 = p11 .before in let p15 = p12 .before .before .before in
     let a = p15 .args in
     let x = length-take-le (p8 .cells-asked .result) (a .room .now) (p7 .if4 .left) in
     let y = length-take-le (p5 .coefficients-asked .result) (a .first .now) (p4 .if5 .left) in
@@ -69,7 +69,7 @@ hilbert-numerator-spec =
     (λ c. search needs)
     (λ c. search needs)
     -- returns-7
-    (λ c. let p4 = c .before .before .before .before in let p8 = p4 .before .before .before .before in let p9 = p8 .before in let p10 = p9 .before in let p12 = p10 .before .before in let p13 = p12 .before in let p15 = p13 .before .before in let p16 = p15 .before in let p17 = p16 .before in let p20 = p17 .before .before .before in 
+    (λ c. let p4 = c .before .before .before .before in let p8 = p4 .before .before .before .before in let p9 = p8 .before in let p10 = p9 .before in let p12 = p10 .before .before in let p13 = p12 .before in let p15 = p13 .before .before in let p16 = p15 .before in let p17 = p16 .before in let p20 = p17 .before .before .before in
     let a = p20 .args in
     let d = p4 .numerator-in .ensures in
     let x = length-take-le (p13 .cells-asked .result) (a .room .now) (p12 .if4 .left) in

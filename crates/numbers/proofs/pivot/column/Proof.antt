@@ -36,8 +36,8 @@ column-spec =
     (λ c. search needs)
     -- loop-again
     (λ c. let p3 = c .before .before .before in let i = p3 .loop .inv .3 in
-        ⊎-elim (λ w. (omega arith, omega (arith, w .2), omega (arith, w .3, w .1 .taken), rw (w .2, w .3) (counted-more _ _ _ _ _ _ _ (w .0 .taken) (omega (arith, w .1 .taken)) (omega arith) (w .0 .taken) i)))
-        (⊎-elim (λ w. (omega arith, omega (arith, w .2), omega (arith, w .3), rw (w .2, w .3) (counted-more _ _ _ _ _ _ _ (w .0 .taken) (omega arith) (omega (arith, w .1 .left)) (i .positive) i)))
-        (λ w. (omega arith, omega (arith, w .1), omega (arith, w .2), rw (w .1, w .2) (counted-skip _ _ _ _ _ _ (w .0 .left) i)))) (c .if1 .came))
+    ⊎-elim (λ w. (omega arith, omega (arith, w .2), omega (arith, w .3, w .1 .taken), rw (w .2, w .3) (counted-more _ _ _ _ _ _ _ (w .0 .taken) (omega (arith, w .1 .taken)) (omega arith) (w .0 .taken) i)))
+    (⊎-elim (λ w. (omega arith, omega (arith, w .2), omega (arith, w .3), rw (w .2, w .3) (counted-more _ _ _ _ _ _ _ (w .0 .taken) (omega arith) (omega (arith, w .1 .left)) (i .positive) i)))
+    (λ w. (omega arith, omega (arith, w .1), omega (arith, w .2), rw (w .1, w .2) (counted-skip _ _ _ _ _ _ (w .0 .left) i)))) (c .if1 .came))
     -- returns
     (λ c. let p1 = c .before in let p2 = p1 .before in let e : p1 .loop .i ≡ p2 .args .m = omega arith in rw e at (p1 .loop .inv .3)))

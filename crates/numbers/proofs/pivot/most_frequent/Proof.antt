@@ -27,6 +27,6 @@ most-frequent-spec =
     (λ c. search needs)
     -- loop-again
     (λ c. let p1 = c .before in let p3 = p1 .before .before in ⊎-elim (λ w. (omega arith, rw (w .1, w .2, w .3) (chosen-take _ _ _ _ _ _ _ _ _ (omega arith) (w .0 .taken) (p1 .column .ensures) (p3 .loop .inv .1))))
-        (λ w. (omega arith, rw (w .1, w .2, w .3) (chosen-keep _ _ _ _ _ _ _ _ _ (w .0 .left) (p1 .column .ensures) (p3 .loop .inv .1)))) (c .if1 .came))
+    (λ w. (omega arith, rw (w .1, w .2, w .3) (chosen-keep _ _ _ _ _ _ _ _ _ (w .0 .left) (p1 .column .ensures) (p3 .loop .inv .1)))) (c .if1 .came))
     -- returns
     (λ c. let p1 = c .before in choosing _ _ _ _ _ _ _ (omega arith) (omega arith) (p1 .loop .inv .1)))
