@@ -1,12 +1,10 @@
-/* Replays the cases of tests/vectors (files as arguments) on the bridge's calls: number, values, and every lent cell.
+/* Replays the cases of tests/vectors (files as arguments) on the bridge's calls: number, values, and every lent element.
    The form of a line is in tests/vectors/README.md; lines of calls that are not in the table below are counted and left out. */
 #include "bridge.h"
 #include "check.h"
 #include <stdlib.h>
 
 #define LONGEST 65536
-#define MOST 1024
-#define WORDS 262152
 #define BESIDE 8
 
 /* The rest of the line that is read. */
@@ -16,55 +14,67 @@ static uint64_t number(void) {
     return strtoull(rest, &rest, 10);
 }
 
-/* A list of cells, as it is given. */
-struct cells {
-    size_t len;
-    uint16_t at[MOST];
+/* Elements of 1, 2 or 8 bytes: a list that is given, or a room that is lent, with BESIDE more on each side. */
+struct part {
+    size_t len, width;
+    unsigned char *all;
 };
 
-static struct cells cells(void) {
-    struct cells c = {number(), {0}};
-    for (size_t i = 0; i < c.len; i++) c.at[i] = (uint16_t)number();
-    return c;
+static struct part part(size_t len, size_t width) {
+    return (struct part){len, width, malloc((len + 2 * BESIDE) * width)};
 }
 
-/* A list of coefficients, as it is given. */
-struct coefficients {
-    size_t len;
-    int64_t at[MOST];
-};
-
-static struct coefficients coefficients(void) {
-    struct coefficients c = {number(), {0}};
-    for (size_t i = 0; i < c.len; i++) c.at[i] = (int64_t)number();
-    return c;
+static void *at(struct part p) {
+    return p.all + BESIDE * p.width;
 }
 
-/* An output of the length that is told, in its pattern, with cells beside it. */
-struct output {
-    size_t len;
-    uint16_t all[MOST + 2 * BESIDE];
-};
-
-static uint16_t pattern(size_t j) {
-    return (uint16_t)(7 + j % 5);
+static uint64_t element(struct part p, size_t i) {
+    uint64_t x = 0;
+    memcpy(&x, p.all + i * p.width, p.width);
+    return x;
 }
 
-static struct output lend_output(void) {
-    struct output o = {number(), {0}};
-    for (size_t i = 0; i < MOST + 2 * BESIDE; i++) o.all[i] = i < BESIDE || i >= BESIDE + o.len ? 7 : pattern(i - BESIDE);
-    return o;
+static void put(struct part p, size_t i, uint64_t x) {
+    memcpy(p.all + i * p.width, &x, p.width);
 }
 
-/* After number 0 the output is the list that follows, else the pattern; the cells beside it are untouched. */
-static int output_is(const struct output *o, uint8_t wanted) {
-    if (wanted == 0 && number() != o->len) return 0;
-    for (size_t i = 0; i < MOST + 2 * BESIDE; i++) {
-        int inside = i >= BESIDE && i < BESIDE + o->len;
-        uint16_t cell = !inside ? 7 : wanted == 0 ? (uint16_t)number() : pattern(i - BESIDE);
-        if (o->all[i] != cell) return 0;
+static struct part list(size_t width) {
+    struct part p = part(number(), width);
+    for (size_t i = 0; i < p.len; i++) put(p, BESIDE + i, number());
+    return p;
+}
+
+/* What element i holds before the call, those beside the part among them. */
+static uint64_t pattern(struct part p, size_t i) {
+    return i < BESIDE || i >= BESIDE + p.len ? 7 : 7 + (i - BESIDE) % 5;
+}
+
+static struct part lend(size_t width) {
+    struct part p = part(number(), width);
+    for (size_t i = 0; i < p.len + 2 * BESIDE; i++) put(p, i, pattern(p, i));
+    return p;
+}
+
+static uint64_t below_width(uint64_t x, size_t width) {
+    return width == 8 ? x : x & ((1ULL << 8 * width) - 1);
+}
+
+/* The part starts with the next `count` numbers of the line, is zero up to `asked`, and holds what it held after that. */
+static int holds(struct part p, size_t count, size_t asked) {
+    int right = 1;
+    for (size_t i = 0; i < p.len + 2 * BESIDE; i++) {
+        uint64_t wanted = pattern(p, i);
+        if (i >= BESIDE && i < BESIDE + count) wanted = below_width(number(), p.width);
+        else if (i >= BESIDE && i < BESIDE + asked) wanted = 0;
+        right &= element(p, i) == wanted;
     }
-    return 1;
+    return right;
+}
+
+/* After number 0 the output is the list that follows. */
+static int written(struct part out, uint8_t wanted) {
+    if (wanted != 0) return holds(out, 0, 0);
+    return number() == out.len && holds(out, out.len, out.len);
 }
 
 /* The number is the one that follows, and after 0 the first `count` values are those that follow. */
@@ -75,98 +85,132 @@ static int told(uint8_t answer, const struct values *v, int count) {
     return answer == wanted && values_are(v, wanted, word[0], word[1], word[2]);
 }
 
+/* Monomials. */
+
 static int degree(void) {
     struct values v;
-    struct cells a = cells();
-    return told(pt_degree(a.at, a.len, lend_values(&v)), &v, 1);
+    struct part a = list(2);
+    int right = told(pt_degree(at(a), a.len, lend_values(&v)), &v, 1);
+    free(a.all);
+    return right;
 }
 
 static int exponent(void) {
     struct values v;
-    struct cells a = cells();
-    return told(pt_exponent(a.at, a.len, number(), lend_values(&v)), &v, 1);
+    struct part a = list(2);
+    int right = told(pt_exponent(at(a), a.len, number(), lend_values(&v)), &v, 1);
+    free(a.all);
+    return right;
 }
 
 static int power(void) {
-    uint64_t n = number();
-    uint64_t v = number();
-    uint16_t x = (uint16_t)number();
-    struct output out = lend_output();
-    uint8_t answer = pt_power(n, v, x, out.all + BESIDE, out.len);
-    uint8_t wanted = (uint8_t)number();
-    return answer == wanted && output_is(&out, wanted);
+    uint64_t n = number(), v = number(), x = number();
+    struct part out = lend(2);
+    uint8_t answer = pt_power(n, v, (uint16_t)x, at(out), out.len);
+    int right = answer == number() && written(out, answer);
+    free(out.all);
+    return right;
 }
 
 typedef uint8_t write_call(const uint16_t *a, size_t a_len, const uint16_t *b, size_t b_len, uint16_t *out, size_t out_len);
 typedef uint8_t value_call(const uint16_t *a, size_t a_len, const uint16_t *b, size_t b_len, uint64_t values[4]);
 
 static int write_pair(write_call *call) {
-    struct cells a = cells();
-    struct cells b = cells();
-    struct output out = lend_output();
-    uint8_t answer = call(a.at, a.len, b.at, b.len, out.all + BESIDE, out.len);
-    uint8_t wanted = (uint8_t)number();
-    return answer == wanted && output_is(&out, wanted);
+    struct part a = list(2), b = list(2), out = lend(2);
+    uint8_t answer = call(at(a), a.len, at(b), b.len, at(out), out.len);
+    int right = answer == number() && written(out, answer);
+    free(a.all), free(b.all), free(out.all);
+    return right;
 }
 
 static int value_pair(value_call *call) {
     struct values v;
-    struct cells a = cells();
-    struct cells b = cells();
-    return told(call(a.at, a.len, b.at, b.len, lend_values(&v)), &v, 1);
+    struct part a = list(2), b = list(2);
+    int right = told(call(at(a), a.len, at(b), b.len, lend_values(&v)), &v, 1);
+    free(a.all), free(b.all);
+    return right;
 }
 
 static int mask(void) {
     struct values v;
-    uint64_t n = number();
-    uint16_t max_deg = (uint16_t)number();
-    struct cells exps = cells();
-    return told(pt_mask(n, max_deg, exps.at, exps.len, lend_values(&v)), &v, 2);
+    uint64_t n = number(), max_deg = number();
+    struct part exps = list(2);
+    int right = told(pt_mask(n, (uint16_t)max_deg, at(exps), exps.len, lend_values(&v)), &v, 2);
+    free(exps.all);
+    return right;
 }
+
+/* Numbers. */
 
 static int is_zero(void) {
     struct values v;
-    struct coefficients c = coefficients();
-    return told(pt_is_zero(c.at, c.len, lend_values(&v)), &v, 1);
+    struct part c = list(8);
+    int right = told(pt_is_zero(at(c), c.len, lend_values(&v)), &v, 1);
+    free(c.all);
+    return right;
 }
 
 static int coeff_degree(void) {
     struct values v;
-    struct coefficients c = coefficients();
-    return told(pt_coeff_degree(c.at, c.len, lend_values(&v)), &v, 2);
+    struct part c = list(8);
+    int right = told(pt_coeff_degree(at(c), c.len, lend_values(&v)), &v, 2);
+    free(c.all);
+    return right;
 }
 
 static int coeff(void) {
     struct values v;
-    struct coefficients c = coefficients();
-    return told(pt_coeff(c.at, c.len, number(), lend_values(&v)), &v, 1);
-}
-
-/* The sum room: zero in its first `wiped` words, else its pattern; the words beside it are untouched. */
-static uint64_t sums[WORDS + 2 * BESIDE];
-
-static void lend_sums(size_t len) {
-    for (size_t i = 0; i < WORDS + 2 * BESIDE; i++) sums[i] = i < BESIDE || i >= BESIDE + len ? 7 : pattern(i - BESIDE);
-}
-
-static int sums_are(size_t len, size_t wiped) {
-    for (size_t i = 0; i < WORDS + 2 * BESIDE; i++) {
-        int inside = i >= BESIDE && i < BESIDE + len;
-        uint64_t word = !inside ? 7 : i < BESIDE + wiped ? 0 : pattern(i - BESIDE);
-        if (sums[i] != word) return 0;
-    }
-    return 1;
+    struct part c = list(8);
+    int right = told(pt_coeff(at(c), c.len, number(), lend_values(&v)), &v, 1);
+    free(c.all);
+    return right;
 }
 
 static int hf_at(void) {
     struct values v;
     uint64_t n = number();
-    struct coefficients c = coefficients();
+    struct part c = list(8);
     uint64_t d = number();
-    size_t len = number();
-    lend_sums(len);
-    uint8_t answer = pt_hf_at(n, c.at, c.len, d, sums + BESIDE, len, lend_values(&v));
-    return told(answer, &v, 2) && sums_are(len, answer == 0 || answer == 11 ? 4 * (d + 1) : 0);
+    struct part sums = lend(8);
+    uint8_t answer = pt_hf_at(n, at(c), c.len, d, at(sums), sums.len, lend_values(&v));
+    int right = told(answer, &v, 2) && holds(sums, 0, answer == 0 || answer == 11 ? 4 * (d + 1) : 0);
+    free(c.all), free(sums.all);
+    return right;
+}
+
+/* The exponent cells asked: s·n·(s + e), with e the number of different pairs of a variable and an exponent other than 0. */
+static size_t cells_asked(uint64_t n, uint64_t s, struct part cells) {
+    size_t e = 0;
+    for (uint64_t v = 0; v < n; v++) {
+        for (uint64_t k = 0; k < s; k++) {
+            uint64_t x = element(cells, BESIDE + k * n + v);
+            int seen = x == 0;
+            for (uint64_t j = 0; j < k; j++) seen |= element(cells, BESIDE + j * n + v) == x;
+            e += !seen;
+        }
+    }
+    return s * n * (s + e);
+}
+
+/* The coefficients that follow, in the first coefficient room: their count is the value, and the asked size stands before them. */
+static int coefficients_told(uint8_t answer, const struct values *v, size_t cells, struct part room, struct part first, struct part second) {
+    uint8_t wanted = (uint8_t)number();
+    size_t asked = wanted == 0 ? number() : 0;
+    size_t count = wanted == 0 ? number() : 0;
+    int right = answer == wanted && values_are(v, wanted, count, 0, 0);
+    right &= holds(first, count, asked);
+    return right && holds(second, 0, asked) && holds(room, 0, wanted == 0 ? cells : 0);
+}
+
+static int numerator(void) {
+    struct values v;
+    uint64_t n = number(), s = number();
+    struct part cells = list(2), room = lend(2), first = lend(8), second = lend(8);
+    uint8_t answer = pt_numerator(n, s, at(cells), cells.len, at(room), room.len, at(first), first.len, at(second), second.len, lend_values(&v));
+    size_t asked = answer == 0 ? cells_asked(n, s, cells) : 0;
+    int right = coefficients_told(answer, &v, asked, room, first, second);
+    free(cells.all), free(room.all), free(first.all), free(second.all);
+    return right;
 }
 
 /* 1 right, 0 wrong, -1 no such call here. */
@@ -184,6 +228,7 @@ static int replayed(uint64_t code) {
     case 10: return value_pair(pt_lex);
     case 11: return value_pair(pt_degrevlex);
     case 12: return mask();
+    case 21: return numerator();
     case 23: return hf_at();
     case 25: return is_zero();
     case 26: return coeff_degree();

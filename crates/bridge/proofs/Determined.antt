@@ -18,6 +18,7 @@ use Rattle.bridge.proofs.coefficients.pt_is_zero.Reads as is-zero
 use Rattle.bridge.proofs.coefficients.pt_coeff_degree.Reads as coeff-degree
 use Rattle.bridge.proofs.coefficients.pt_coeff.Reads as coeff
 use Rattle.bridge.proofs.hilbert.pt_hf_at.Reads as hf-at
+use Rattle.bridge.proofs.numerator.pt_numerator.Reads as numerator
 
 -- what equals the same is equal, in two places at once
 both : {A B : Type 0} {x x′ a : A} {y y′ b : B} → (x ≡ a) × (y ≡ b) → (x′ ≡ a) × (y′ ≡ b) → (x ≡ x′) × (y ≡ y′)
@@ -70,3 +71,7 @@ pt-coeff κs a r r′ s s′ p q = both p q
 
 pub pt-hf-at : (κs : Lfts 3) (a : _) (r r′ : ℕ) (s s′ : _) → hf-at.Post κs a r s → hf-at.Post κs a r′ s′ → (r ≡ r′) × ((s .1 .1 .1 .0 .now ≡ s′ .1 .1 .1 .0 .now) × (s .1 .1 .1 .1 .0 .now ≡ s′ .1 .1 .1 .1 .0 .now))
 pt-hf-at κs a r r′ s s′ p q = (p .0 ∙ sym (q .0), both (p .1) (q .1))
+
+pub pt-numerator : (κs : Lfts 5) (a : _) (r r′ : ℕ) (s s′ : _) → numerator.Post κs a r s → numerator.Post κs a r′ s′ → (r ≡ r′) × ((s .1 .1 .1 .0 .now ≡ s′ .1 .1 .1 .0 .now) × ((s .1 .1 .1 .1 .0 .now ≡ s′ .1 .1 .1 .1 .0 .now) × ((s .1 .1 .1 .1 .1 .0 .now ≡ s′ .1 .1 .1 .1 .1 .0 .now) × (s .1 .1 .1 .1 .1 .1 .0 .now ≡ s′ .1 .1 .1 .1 .1 .1 .0 .now))))
+pt-numerator κs a r r′ s s′ p q =
+    (p .0 ∙ sym (q .0), (p .1 .0 ∙ sym (q .1 .0), (p .1 .1 .0 ∙ sym (q .1 .1 .0), both (p .1 .1 .1) (q .1 .1 .1))))

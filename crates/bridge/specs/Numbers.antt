@@ -1,7 +1,8 @@
--- The answers of the calls on coefficient lists and of the Hilbert function, as the bridge tells them.
+-- The answers of the calls on coefficient lists, of the numerator and of the Hilbert function, as the bridge tells them.
 --   ofWord x     == the word x
 --   ofDegree a   == 1 and the degree, or 0 for none
 --   ofSigned a   == the low word, the high word
+--   ofLength a   == the length
 -- Assumes nothing.
 use mathlib.Core.Path.{_≡_, refl}
 use mathlib.Core.List.{List, [], _∷_}
@@ -14,6 +15,8 @@ use Rattle.numbers.specs.declared.coefficients.DegreeOutcome.{DegreeOutcome}
 use Rattle.numbers.specs.declared.coefficients.DegreeAnswer.{DegreeAnswer}
 use Rattle.numbers.specs.declared.hf_at.SignedOutcome.{SignedOutcome}
 use Rattle.numbers.specs.declared.hf_at.SignedAnswer.{SignedAnswer}
+use Rattle.numbers.specs.declared.numerator.LengthOutcome.{LengthOutcome}
+use Rattle.numbers.specs.declared.numerator.LengthAnswer.{LengthAnswer}
 use Rattle.bridge.specs.declared.told.Told.{Told}
 use Rattle.bridge.specs.Told.{numberIn, valuesIn}
 
@@ -33,6 +36,13 @@ signedTold (SignedOutcome.Refused r) = Told.Refused r
 
 abbrev pub ofSigned : SignedAnswer → Told
 ofSigned a = signedTold (a .outcome)
+
+abbrev pub lengthTold : LengthOutcome → Told
+lengthTold (LengthOutcome.Value k) = Told.Done k 0 0
+lengthTold (LengthOutcome.Refused r) = Told.Refused r
+
+abbrev pub ofLength : LengthAnswer → Told
+ofLength a = lengthTold (a .outcome)
 
 test-degree : valuesIn (ofDegree (degreeOf (pos 1 ∷ negsuc 1 ∷ pos 0 ∷ []))) (9 ∷ 8 ∷ 7 ∷ 6 ∷ []) ≡ 1 ∷ 1 ∷ 0 ∷ 0 ∷ []
 test-degree = refl

@@ -4,4 +4,5 @@ pub mod coefficients;
 pub mod hilbert;
 pub mod mask;
 pub mod monomial;
+pub mod numerator;
 mod told;
