@@ -1,5 +1,6 @@
 -- Laws of the bytes of the ideal record.
 --   append-parts                        two equal joined lists with first parts of equal length have equal parts
+--   first-byte, other-bytes             bytes, one by one
 --   bigEndian-length, bigEndian-bytes   k bytes of x are k numbers, each below 256
 --   value-bigEndian                     read back, they give x modulo 256^k
 --   bigEndian-inj                       two numbers below 256^k with the same k bytes are equal
@@ -45,10 +46,12 @@ append-parts (x ∷ a) (y ∷ b) c d e h =
     let r = append-parts a b c d (omega arith) (tail-eq-of-cons-eq h) in
     (cons-eq (head-eq-of-cons-eq h) (r .0), r .1)
 
-first-byte : (b : ℕ) (bs : List ℕ) → areBytes (b ∷ bs) ≡ true → b < 256
+-- the first is below 256
+pub first-byte : (b : ℕ) (bs : List ℕ) → areBytes (b ∷ bs) ≡ true → b < 256
 first-byte b bs h = ltb-true b 256 (and-left (ltb b 256) (areBytes bs) h)
 
-other-bytes : (b : ℕ) (bs : List ℕ) → areBytes (b ∷ bs) ≡ true → areBytes bs ≡ true
+-- and those after it are bytes
+pub other-bytes : (b : ℕ) (bs : List ℕ) → areBytes (b ∷ bs) ≡ true → areBytes bs ≡ true
 other-bytes b bs h = and-right (ltb b 256) (areBytes bs) h
 
 bytes-append : (a b : List ℕ) → areBytes a ≡ true → areBytes b ≡ true → areBytes (a ++ b) ≡ true

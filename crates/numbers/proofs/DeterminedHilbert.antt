@@ -1,4 +1,5 @@
 -- Any two outcomes that the contract of a call allows are equal: for signed words, two-word numbers, coefficient lists and the Hilbert function.
+-- The limits that the code names are those of document 01.
 -- Assumes nothing.
 use mathlib.Core.Path.{_≡_, sym, _∙_}
 use mathlib.Core.Bool.{Bool}
@@ -13,6 +14,7 @@ use ghost.Atoms.{Atoms}
 use contract.Monad.{Fun, fact, fact-use, fact-mono}
 use contract.Lifetimes.{Lfts}
 use Rattle.numbers.specs.Wide.{value, wide}
+use Rattle.numbers.specs.Hilbert.{hilbertAnswer}
 use Rattle.numbers.specs.declared.wide.Wide.{Wide}
 use Rattle.numbers.specs.declared.wide.Product.{Product}
 use Rattle.numbers.specs.declared.coefficients.DegreeAnswer.{DegreeAnswer}
@@ -101,3 +103,7 @@ coeff-determined κs a r r′ s s′ p q = p ∙ sym q
 -- of the answer and of what the room then holds
 pub hf-at-determined : (κs : Lfts 2) (a : _) (r r′ : SignedAnswer) (s s′ : _) → hf-at.Post κs a r s → hf-at.Post κs a r′ s′ → (r ≡ r′) × (s .1 .1 .1 .0 .now ≡ s′ .1 .1 .1 .0 .now)
 hf-at-determined κs a r r′ s s′ p q = (p .0 ∙ sym (q .0), p .1 ∙ sym (q .1))
+
+-- the greatest width and the greatest degree, in numbers
+pub hf-at-limits : (κs : Lfts 2) (a : _) (r : SignedAnswer) (s : _) → hf-at.Post κs a r s → r ≡ hilbertAnswer 255 65536 (a .0) (a .1 .0 .now) (a .1 .1 .0) (a .1 .1 .1 .0 .now)
+hf-at-limits κs a r s p = p .0

@@ -45,8 +45,13 @@ hf-at-spec =
     (λ c κs. search needs)
     (λ c κs. search needs)
     (λ c. search needs)
-    (λ c. let a = c .before .before .before .before .before .before .before .before .before .before .before .before .before .before .before .before .before .args in
-    let e = le-ltb _ (a .n) (c .before .before .before .before .before .before .before .before .before .before .before .before .before .before .before .if1 .left) in
-    let f = le-ltb _ (a .d) (c .before .before .before .before .before .before .before .before .before .before .before .before .before .before .if2 .left) in
-    let g = le-ltb (length (a .sums .now)) (4 * (a .d + 1)) (c .before .before .before .before .before .before .before .before .before .before .before .before .before .if3 .left) in
-    (rw (e, f, g, c .difference .ensures) (settled (a .coeffs .now) (a .d) (c .before .before .before .before .before .before .before .before .before .before .before .sum-part .ensures .1) (c .before .before .before .before .before .before .before .sum-part2 .ensures .1) (a .n) (value (c .before .before .before .before .before .before .before .before .before .before .before .sum-part .result)) (value (c .before .before .before .before .before .before .before .sum-part2 .result)) (c .before .before .before .before .before .before .before .before .before .before .before .sum-part .ensures .0) (c .before .before .before .before .before .before .before .sum-part2 .ensures .0)), rw (e, f, g) (c .before .before .before .wipe .ensures ∙ ap (λ (l : List ℕ). replicate (4 * (a .d + 1)) 0 ++ l) (past-parts (a .sums .now) (c .before .before .before .before .before .before .before .before .before .before .before .sum-part .last .1 .1 .1 .1 .0) (c .before .before .before .before .before .before .before .sum-part2 .last .1 .1 .1 .1 .0) (2 * (a .d + 1)) (4 * (a .d + 1)) (search needs) (search needs) (search needs) (search needs))))))
+    (λ c. let minus = c .before .before .before .before .before .before .before in
+    let plus = minus .before .before .before .before in
+    let room = plus .before .before in
+    let a = room .before .before .before .before .args in
+    let e = le-ltb _ (a .n) (room .before .before .if1 .left) in
+    let f = le-ltb _ (a .d) (room .before .if2 .left) in
+    let g = le-ltb (length (a .sums .now)) (4 * (a .d + 1)) (room .if3 .left) in
+    let value-is = settled (a .coeffs .now) (a .d) (plus .sum-part .ensures .1) (minus .sum-part2 .ensures .1) (a .n) (value (plus .sum-part .result)) (value (minus .sum-part2 .result)) (plus .sum-part .ensures .0) (minus .sum-part2 .ensures .0) in
+    let kept = past-parts (a .sums .now) (plus .sum-part .last .1 .1 .1 .1 .0) (minus .sum-part2 .last .1 .1 .1 .1 .0) (2 * (a .d + 1)) (4 * (a .d + 1)) (search needs) (search needs) (search needs) (search needs) in
+    (rw (e, f, g, c .difference .ensures) value-is, rw (e, f, g) (c .before .before .before .wipe .ensures ∙ ap (λ (l : List ℕ). replicate (4 * (a .d + 1)) 0 ++ l) kept))))

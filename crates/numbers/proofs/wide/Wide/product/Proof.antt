@@ -1,5 +1,4 @@
-use Prim.Native.Nat.{_%_, _/_, _^_}
-use native.Mathlib.Omega.{arith}
+use Prim.Native.Nat.{_^_}
 use Rattle.laws.proofs.Word.{product-lt}
 use Rattle.numbers.proofs.TwoWords.{product-halves}
 use borrow.Author.Needs.{needs}
@@ -10,12 +9,12 @@ pub product-spec : {M : Type 1} → statement M
 product-spec =
     tie.close
     (tie.spec
-    (λ c. record { fits = product-lt (2 ^ 32) (c .args .a % 2 ^ 32) (c .args .b % 2 ^ 32) (omega arith) (omega arith) })
-    (λ c. record { fits = product-lt (2 ^ 32) (c .args .a / 2 ^ 32) (c .args .b / 2 ^ 32) (search needs) (search needs) })
-    (λ c. record { fits = product-lt (2 ^ 32) (c .args .a % 2 ^ 32) (c .args .b / 2 ^ 32) (omega arith) (search needs) })
+    (λ c. record { fits = product-lt (2 ^ 32) _ _ (search needs) (search needs) })
+    (λ c. record { fits = product-lt (2 ^ 32) _ _ (search needs) (search needs) })
+    (λ c. record { fits = product-lt (2 ^ 32) _ _ (search needs) (search needs) })
     (λ c κs. search needs)
     (λ c κs. search needs)
-    (λ c. let a = c .before .before .args in record { fits = product-lt (2 ^ 32) (a .a / 2 ^ 32) (a .b % 2 ^ 32) (search needs) (omega arith) })
+    (λ c. record { fits = product-lt (2 ^ 32) _ _ (search needs) (search needs) })
     (λ c κs. search needs)
     (λ c κs. search needs)
     (λ c. rw (c .wrapping-add2 .ensures, c .before .before .wrapping-add .ensures, c .before .before .before .middle .ensures, c .before .middle2 .ensures) (product-halves (c .before .before .before .before .args .a) (c .before .before .before .before .args .b) (search needs) (search needs))))

@@ -1,0 +1,6 @@
+-- What the proofs of layer 3 share.
+pub mod Cells
+pub mod Choosing
+pub mod Standing
+pub mod Answers
+pub mod DeterminedRecords

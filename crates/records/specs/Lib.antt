@@ -1,0 +1,4 @@
+-- What the contracts of layer 3 cite, over the definitions of the crate laws.
+pub mod Ideal
+pub mod Answer
+pub mod Rows

@@ -1,0 +1,6 @@
+// Layer 3: the ideal record and the answer record. Every call checks its own input and refuses by number.
+pub mod answer;
+mod bytes;
+mod choice;
+pub mod ideal;
+mod rows;
