@@ -213,6 +213,45 @@ static int numerator(void) {
     return right;
 }
 
+/* Records. */
+
+static int write_record(void) {
+    struct values v;
+    uint64_t n = number(), s = number();
+    struct part cells = list(2), out = lend(1);
+    uint8_t answer = pt_write_record(n, s, at(cells), cells.len, at(out), out.len, lend_values(&v));
+    int right = told(answer, &v, 1) && written(out, answer);
+    free(cells.all), free(out.all);
+    return right;
+}
+
+static int check_place(void) {
+    struct part rec = list(1);
+    uint8_t answer = pt_check_place(at(rec), rec.len, number());
+    free(rec.all);
+    return answer == number();
+}
+
+static int place(void) {
+    struct values v;
+    struct part rec = list(1);
+    uint64_t k = number();
+    struct part out = lend(1);
+    uint8_t answer = pt_place(at(rec), rec.len, k, at(out), out.len, lend_values(&v));
+    int right = told(answer, &v, 1) && written(out, answer);
+    free(rec.all), free(out.all);
+    return right;
+}
+
+static int copy_record(void) {
+    struct values v;
+    struct part rec = list(1), cells = lend(2);
+    uint8_t answer = pt_copy_record(at(rec), rec.len, at(cells), cells.len, lend_values(&v));
+    int right = told(answer, &v, 2) && written(cells, answer);
+    free(rec.all), free(cells.all);
+    return right;
+}
+
 /* 1 right, 0 wrong, -1 no such call here. */
 static int replayed(uint64_t code) {
     switch (code) {
@@ -233,6 +272,10 @@ static int replayed(uint64_t code) {
     case 25: return is_zero();
     case 26: return coeff_degree();
     case 27: return coeff();
+    case 31: return write_record();
+    case 32: return check_place();
+    case 33: return place();
+    case 34: return copy_record();
     default: return -1;
     }
 }

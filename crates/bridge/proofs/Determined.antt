@@ -19,6 +19,10 @@ use Rattle.bridge.proofs.coefficients.pt_coeff_degree.Reads as coeff-de
 use Rattle.bridge.proofs.coefficients.pt_coeff.Reads as coeff
 use Rattle.bridge.proofs.hilbert.pt_hf_at.Reads as hf-at
 use Rattle.bridge.proofs.numerator.pt_numerator.Reads as numerator
+use Rattle.bridge.proofs.ideal.pt_write_record.Reads as write-record
+use Rattle.bridge.proofs.ideal.pt_check_place.Reads as check-place
+use Rattle.bridge.proofs.ideal.pt_place.Reads as place
+use Rattle.bridge.proofs.ideal.pt_copy_record.Reads as copy-record
 
 -- what equals the same is equal, in two places at once
 both : {A B : Type 0} {x x′ a : A} {y y′ b : B} → (x ≡ a) × (y ≡ b) → (x′ ≡ a) × (y′ ≡ b) → (x ≡ x′) × (y ≡ y′)
@@ -75,3 +79,15 @@ pt-hf-at κs a r r′ s s′ p q = (p .0 ∙ sym (q .0), both (p .1) (q .1))
 pub pt-numerator : (κs : Lfts 5) (a : _) (r r′ : ℕ) (s s′ : _) → numerator.Post κs a r s → numerator.Post κs a r′ s′ → (r ≡ r′) × ((s .1 .1 .1 .0 .now ≡ s′ .1 .1 .1 .0 .now) × ((s .1 .1 .1 .1 .0 .now ≡ s′ .1 .1 .1 .1 .0 .now) × ((s .1 .1 .1 .1 .1 .0 .now ≡ s′ .1 .1 .1 .1 .1 .0 .now) × (s .1 .1 .1 .1 .1 .1 .0 .now ≡ s′ .1 .1 .1 .1 .1 .1 .0 .now))))
 pt-numerator κs a r r′ s s′ p q =
     (p .0 ∙ sym (q .0), (p .1 .0 ∙ sym (q .1 .0), (p .1 .1 .0 ∙ sym (q .1 .1 .0), both (p .1 .1 .1) (q .1 .1 .1))))
+
+pub pt-write-record : (κs : Lfts 3) (a : _) (r r′ : ℕ) (s s′ : _) → write-record.Post κs a r s → write-record.Post κs a r′ s′ → (r ≡ r′) × ((s .1 .1 .1 .0 .now ≡ s′ .1 .1 .1 .0 .now) × (s .1 .1 .1 .1 .0 .now ≡ s′ .1 .1 .1 .1 .0 .now))
+pt-write-record κs a r r′ s s′ p q = (p .0 ∙ sym (q .0), both (p .1) (q .1))
+
+pub pt-check-place : (κs : Lfts 1) (a : _) (r r′ : ℕ) (s s′ : _) → check-place.Post κs a r s → check-place.Post κs a r′ s′ → r ≡ r′
+pt-check-place κs a r r′ s s′ p q = p ∙ sym q
+
+pub pt-place : (κs : Lfts 3) (a : _) (r r′ : ℕ) (s s′ : _) → place.Post κs a r s → place.Post κs a r′ s′ → (r ≡ r′) × ((s .1 .1 .0 .now ≡ s′ .1 .1 .0 .now) × (s .1 .1 .1 .0 .now ≡ s′ .1 .1 .1 .0 .now))
+pt-place κs a r r′ s s′ p q = (p .0 ∙ sym (q .0), both (p .1) (q .1))
+
+pub pt-copy-record : (κs : Lfts 3) (a : _) (r r′ : ℕ) (s s′ : _) → copy-record.Post κs a r s → copy-record.Post κs a r′ s′ → (r ≡ r′) × ((s .1 .0 .now ≡ s′ .1 .0 .now) × (s .1 .1 .0 .now ≡ s′ .1 .1 .0 .now))
+pt-copy-record κs a r r′ s s′ p q = (p .0 ∙ sym (q .0), both (p .1) (q .1))

@@ -2,3 +2,4 @@
 pub mod Told
 pub mod Monomials
 pub mod Numbers
+pub mod Records

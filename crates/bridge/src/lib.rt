@@ -2,6 +2,7 @@
 // is done, and writes `values` only then.
 pub mod coefficients;
 pub mod hilbert;
+pub mod ideal;
 pub mod mask;
 pub mod monomial;
 pub mod numerator;
