@@ -11,7 +11,7 @@
 --   pairs-most                   e is at most n times the count
 --   lcm-degree                   the degree of the lcm of all: the greatest exponents added
 --   sumBelow-ext, sumBelow-next  sums of equal values, and one value more
---   cells-enough                 what is asked suffices for the engine
+--   cells-enough, enough, enough-both   what is asked suffices for the engine
 use mathlib.Core.Path.{_≡_, refl, sym, ap, ap₂, _∙_}
 use mathlib.Core.Logic.{inl}
 use mathlib.Core.Bool.{Bool, true, false, _||_, cond}
@@ -252,3 +252,8 @@ pub enough : (n s : ℕ) (cells room : List ℕ) → length room ≡ cellsAsked 
 enough n s cells room e =
     let h : length (listed n s cells) * length (listed n s cells) * n ≤ length room = rw e (cells-enough n (listed n s cells)) in
     rw (listed-count n s cells) at h
+
+pub enough-both : (n s : ℕ) (xs : List ℕ) (t : ℕ) (ys room : List ℕ) → length room ≡ cellsAsked n (both n s xs t ys) → (s + t) * (s + t) * n ≤ length room
+enough-both n s xs t ys room e =
+    let h : length (both n s xs t ys) * length (both n s xs t ys) * n ≤ length room = rw e (cells-enough n (both n s xs t ys)) in
+    rw (both-count n s xs t ys) at h

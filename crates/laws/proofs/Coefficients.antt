@@ -2,6 +2,7 @@
 --   shift-ext, shift-zero, shift-sub, shift-shift  t^e times a polynomial: by values, of 0, of a difference, twice
 --   shift-below, shift-at                          its coefficients below e and from e on
 --   coefficient-first                              a list made of the first n values has them as coefficients, and 0 from n on
+--   coefficient-padded                             zeros behind a list change no coefficient
 --   trim-trimmed, trim-coefficient                 trimming leaves no 0 at the end and keeps each coefficient
 --   trimmed-unique                                 trimmed lists with the same coefficients are equal
 --   trim-unique, trim-same                         the trimmed list of a list, by its coefficients
@@ -13,7 +14,7 @@ use Prim.Native.Nat.{ℕ, zero, suc, _+_, _-_, _≤_, _<_}
 use native.Mathlib.Omega.{arith}
 use native.Mathlib.Nat.{zero-add, suc-add}
 use lib.IntN.{ℤ, pos, negsuc, _-ℤ_, pos-ne-negsuc}
-use lib.ListN.{length, take, length-append}
+use lib.ListN.{length, take, replicate, length-append}
 use lib.Seq.{take-suc, length-take-le}
 use Rattle.laws.specs.Coefficients.{coefficient, Trimmed, trimCons, trim, first, one, shift}
 
@@ -138,3 +139,15 @@ trim-end p zero l h e = absurd (omega arith)
 trim-end p (suc n) l h e =
     let q : suc n - 1 ≡ n = omega arith in
     rw (take-suc p n (pos 0) h, trim-snoc (take n p) (coefficient p n) (rw q at e), length-append) (omega (arith, length-take-le n p (omega arith)))
+
+-- zeros behind a list are no coefficients
+
+zeros-coefficient : (j k : ℕ) → coefficient (replicate j (pos 0)) k ≡ pos 0
+zeros-coefficient zero k = refl
+zeros-coefficient (suc j) zero = refl
+zeros-coefficient (suc j) (suc k) = zeros-coefficient j k
+
+pub coefficient-padded : (p : List ℤ) (j k : ℕ) → coefficient (p ++ replicate j (pos 0)) k ≡ coefficient p k
+coefficient-padded [] j k = zeros-coefficient j k
+coefficient-padded (x ∷ p) j zero = refl
+coefficient-padded (x ∷ p) j (suc k) = coefficient-padded p j k

@@ -59,7 +59,7 @@ pub seeded-listed : (n m : ℕ) (xs : List ℕ) (L : List (List ℕ)) → Within
 seeded-listed n m xs L w e k =
     seeded-same n (pos 1 ∷ []) (rows n m xs) L (rows-within n m xs) w (λ u h. e u) k ∙ seeded-one L k
 
-zeros-words : (z : List ℤ) → Zeros z → Words z
+pub zeros-words : (z : List ℤ) → Zeros z → Words z
 unfolding Zeros
 zeros-words z o j = rw (o j) (record { sfits = omega arith })
 

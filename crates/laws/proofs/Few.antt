@@ -38,7 +38,7 @@ pub record Quotients (n k : ℕ) (xs : List ℕ) (i : ℕ) (unit : Bool) (ys : L
 pub quotients-none : (n k : ℕ) (xs : List ℕ) → Quotients n k xs 0 false xs
 quotients-none n k xs = record { len = refl; kept = λ j h. refl; is = refl; one = λ h. absurd (false≢true h) }
 
-quotient-cell : (a c : List ℕ) (j : ℕ) → getD (quotient a c) j 0 ≡ getD a j 0 - getD c j 0
+pub quotient-cell : (a c : List ℕ) (j : ℕ) → getD (quotient a c) j 0 ≡ getD a j 0 - getD c j 0
 quotient-cell a [] j = omega arith
 quotient-cell [] (y ∷ c) j = omega arith
 quotient-cell (x ∷ a) (y ∷ c) zero = refl

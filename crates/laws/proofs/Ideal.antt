@@ -8,16 +8,20 @@
 --   same-cons, same-append, same-colon    the same multiples stay the same
 --   unit-all                              with a unit every monomial is a multiple
 --   listed-width, listed-count            a list read from cells has its width and its count
+--   listedFrom n s i cells                == its monomials from number i on
+--   listed-all, listed-none, listed-next  from 0 on, past the end, and from i on by number i and the rest
 --   multiple-lcmOf                        each member divides the lcm of all
 use mathlib.Core.Path.{_≡_, refl, sym, ap, ap₂, _∙_}
 use mathlib.Core.Logic.{_⊎_, inl, inr, _≢_}
-use mathlib.Core.Bool.{Bool, true, false, not, _&&_, _||_, false≢true}
+use mathlib.Core.Bool.{Bool, true, false, _||_, false≢true}
 use mathlib.Core.List.{List, [], _∷_, _++_}
-use Prim.Native.Nat.{ℕ, zero, suc, _+_, _*_, _-_, _≤_, _<_, max}
+use Prim.Native.Nat.{ℕ, zero, suc, _+_, _*_, _-_, _≤_, _<_}
 use native.Mathlib.Omega.{arith}
-use native.Mathlib.Nat.{suc-mul}
-use lib.Dec.{leb, eqb}
+use native.Mathlib.Nat.{suc-mul, zero-mul}
+use native.Mathlib.Numerals.{add-one}
+use lib.Dec.{eqb}
 use lib.ListN.{length, take, drop, length-take, length-drop}
+use lib.Seq.{drop-drop}
 use borrow.Author.Tests.{eqb-true}
 use Rattle.laws.specs.Monomial.{degree, divides, product, quotient, lcm}
 use Rattle.laws.specs.Ideal.{listed, In, Width, Within, multiple, Same, lcmOf, colon, unitIn}
@@ -195,3 +199,23 @@ pub listed-width : (n s : ℕ) (cells : List ℕ) → s * n ≤ length cells →
 listed-width n zero cells h m i = absurd i
 listed-width n (suc s) cells h m (inl e) = ap length e ∙ length-take n cells ∙ omega (arith, suc-mul s n)
 listed-width n (suc s) cells h m (inr i) = listed-width n s (drop n cells) (rw length-drop (omega (arith, suc-mul s n))) m i
+
+-- monomial by monomial
+
+-- the listed monomials from number i on
+abbrev pub listedFrom : ℕ → ℕ → ℕ → List ℕ → List (List ℕ)
+listedFrom n s i cells = listed n (s - i) (drop (i * n) cells)
+
+pub listed-all : (n s : ℕ) (cells : List ℕ) → listedFrom n s 0 cells ≡ listed n s cells
+listed-all n s cells = let e : s - 0 ≡ s = omega arith in rw (zero-mul n, e)
+
+pub listed-none : (n s i : ℕ) (cells : List ℕ) → s ≤ i → listedFrom n s i cells ≡ []
+listed-none n s i cells h = let e : s - i ≡ 0 = omega arith in rw e
+
+-- a part `&cells[i * n..i * n + n]`, then the rest
+pub listed-next : (n s i : ℕ) (cells : List ℕ) → i < s → listedFrom n s i cells ≡ take (i * n + n - i * n) (drop (i * n) cells) ∷ listedFrom n s (i + 1) cells
+listed-next n s i cells h =
+    let e : s - i ≡ suc (s - (i + 1)) = omega arith in
+    let f : i * n + n - i * n ≡ n = omega arith in
+    let g : i * n + n ≡ (i + 1) * n = rw (add-one i) (sym (suc-mul i n)) in
+    rw (e, f) (ap (λ (t : List ℕ). take n (drop (i * n) cells) ∷ listed n (s - (i + 1)) t) (drop-drop n (i * n) cells ∙ ap (λ (k : ℕ). drop k cells) g))

@@ -17,18 +17,18 @@
 --   record-is                            the record of an ideal is one
 use mathlib.Core.Path.{_≡_, refl, sym, ap, ap₂, _∙_}
 use mathlib.Core.Logic.{inl, inr, _↔_}
-use mathlib.Core.Bool.{Bool, true, false, _&&_}
-use mathlib.Core.List.{List, [], _∷_, _++_, append-assoc}
-use Prim.Native.Nat.{ℕ, zero, suc, _+_, _*_, _-_, _≤_, _<_, _/_, _%_, _^_}
+use mathlib.Core.Bool.{true, _&&_}
+use mathlib.Core.List.{List, [], _∷_, _++_}
+use Prim.Native.Nat.{ℕ, zero, suc, _+_, _*_, _-_, _≤_, _<_, _/_, _^_}
 use native.Mathlib.Omega.{arith}
 use native.Mathlib.Nat.{suc-mul, zero-mul, mul-le-mul, mod-eq-of-lt}
 use lib.Dec.{leb, ltb, eqb}
-use lib.ListN.{length, getD, take, drop, length-append, length-take, length-drop, take-append-drop}
+use lib.ListN.{length, getD, take, drop, length-take, length-drop, take-append-drop}
 use lib.Seq.{take-at, drop-at, drop-cons, drop-drop, getD-drop}
 use lib.Pow.{areBytes}
-use borrow.Author.Tests.{lt-ltb, ltb-true, leb-true, le-leb, eqb-true, eq-eqb}
+use borrow.Author.Tests.{lt-ltb, leb-true, le-leb, eqb-true, eq-eqb}
 use Rattle.laws.specs.Monomial.{exponent}
-use Rattle.laws.specs.Ideal.{listed, In, Width}
+use Rattle.laws.specs.Ideal.{listed, Width}
 use Rattle.laws.specs.Count.{equal}
 use Rattle.laws.specs.Minimal.{minimal}
 use Rattle.laws.specs.Record.{bigEndian, framed, monomialBytes, exponentBytes, header, written, idealRecord, cellsIn, widthIn, countIn, exponentsIn, listIn, isRecord}

@@ -112,7 +112,7 @@ seed-one (suc k) = refl
 pub seeded-one : (L : List (List ℕ)) (k : ℕ) → seeded (coefficient (pos 1 ∷ [])) [] L k ≡ numeratorAt L k
 seeded-one L k = seeded-ext (coefficient (pos 1 ∷ [])) one [] L seed-one k ∙ over-one [] L k ∙ sym (numerator-over L k)
 
-shift-neg : (e : ℕ) (f g : ℕ → ℤ) → ((k : ℕ) → f k ≡ negℤ (g k)) → (k : ℕ) → shift e f k ≡ negℤ (shift e g k)
+pub shift-neg : (e : ℕ) (f g : ℕ → ℤ) → ((k : ℕ) → f k ≡ negℤ (g k)) → (k : ℕ) → shift e f k ≡ negℤ (shift e g k)
 shift-neg zero f g h k = h k
 shift-neg (suc e) f g h zero = refl
 shift-neg (suc e) f g h (suc k) = shift-neg e f g h k

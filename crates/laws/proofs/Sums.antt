@@ -16,18 +16,26 @@
 --   capped-reaches           a number held down reaches the limit exactly where the number does
 --   capped-large             whether a sum reaches the limit is seen from its terms held down
 --   capped-exact             and where it does not, they are the terms themselves
+--   productBelow-ext         a product by values
+--   productBelow-le          one of factors that are not 0 grows with their number
+--   sum-term                 a term is at most the sum
+--   mod-below, mod-stage     sums of terms modulo P are the sums modulo P, and one more stage of them is one more fold
+--   residue-sum, residue-sums  sums of residues have the residues of the sums
 use mathlib.Core.Path.{_≡_, refl, sym, ap, ap₂, _∙_}
+use mathlib.Core.Logic.{_≢_}
 use mathlib.Core.Bool.{Bool, true, false}
-use Prim.Native.Nat.{ℕ, zero, suc, _+_, _<_, min}
+use Prim.Native.Nat.{ℕ, zero, suc, _+_, _*_, _%_, _≤_, _<_, min}
+use native.Mathlib.Nat.{le-trans, le-mul-of-pos-right, mul-comm, mod-mod, mod-eq-of-lt, add-mod}
 use native.Mathlib.Omega.{arith}
-use lib.Dec.{leb}
-use borrow.Author.Tests.{leb-true, leb-false, le-leb, lt-leb}
+use lib.Dec.{leb, eqb}
+use borrow.Author.Tests.{leb-true, leb-false, le-leb, lt-leb, eqb-true, eqb-false}
 use lib.IntN.{ℤ, pos, negsuc, natAbs, _+ℤ_, _-ℤ_, +ℤ-idl, +ℤ-idr, pos-+ℤ-pos}
 use Rattle.laws.specs.Coefficients.{shift}
-use Rattle.laws.specs.Sums.{sumBelow, sum, sums, sumℤ, sumsℤ}
-use Rattle.laws.specs.Word.{plus, minus}
+use Rattle.laws.specs.Sums.{sumBelow, productBelow, sum, sums, sumℤ, sumsℤ}
+use Rattle.laws.specs.Word.{plus, minus, residue}
 use Rattle.laws.proofs.Integer.{sub-swap, cancel-add}
 use Rattle.laws.proofs.Coefficients.{shift-ext}
+use Rattle.laws.proofs.Word.{residue-add, residue-lt}
 
 pub sum-ext : (f g : ℕ → ℤ) → ((k : ℕ) → f k ≡ g k) → (d : ℕ) → sumℤ f d ≡ sumℤ g d
 sum-ext f g h zero = h zero
@@ -160,3 +168,63 @@ module _ (C : ℕ) where
 
   pub capped-exact : (a a′ b b′ : ℕ) → min a C ≡ min a′ C → min b C ≡ min b′ C → a + b < C → (a ≡ a′) × (b ≡ b′)
   capped-exact a a′ b b′ h k l = (omega arith, omega arith)
+
+-- products and terms
+
+pub productBelow-ext : (n : ℕ) (f g : ℕ → ℕ) → ((v : ℕ) → v < n → f v ≡ g v) → productBelow n f ≡ productBelow n g
+productBelow-ext zero f g h = refl
+productBelow-ext (suc n) f g h = ap₂ _*_ (h n (omega arith)) (productBelow-ext n f g (λ v l. h v (omega arith)))
+
+-- a factor that is not 0 makes no product less
+times-above : (x p : ℕ) → x ≢ 0 → p ≤ x * p
+times-above x p h = rw (mul-comm x p) (le-mul-of-pos-right p (omega arith))
+
+pub productBelow-le : (n k : ℕ) (f : ℕ → ℕ) → ((v : ℕ) → v < n → f v ≢ 0) → k ≤ n → productBelow k f ≤ productBelow n f
+productBelow-le zero k f h l = let e : k ≡ 0 = omega arith in rw e (omega arith)
+productBelow-le (suc n) k f h l = go (eqb k (suc n)) refl (productBelow-le n k f (λ v i. h v (omega arith)))
+  where
+    go : (t : Bool) → eqb k (suc n) ≡ t → (k ≤ n → productBelow k f ≤ productBelow n f) → productBelow k f ≤ productBelow (suc n) f
+    go true e r = rw (eqb-true k (suc n) e) (omega arith)
+    go false e r = le-trans (r (omega (arith, eqb-false k (suc n) e))) (times-above (f n) (productBelow n f) (h n (omega arith)))
+
+-- a term of a sum
+pub sum-term : (f : ℕ → ℕ) (d k : ℕ) → k ≤ d → f k ≤ sum f d
+sum-term f zero k h = let e : k ≡ 0 = omega arith in rw e (omega arith)
+sum-term f (suc d) k h = go (eqb k (suc d)) refl (sum-term f d k)
+  where
+    go : (t : Bool) → eqb k (suc d) ≡ t → (k ≤ d → f k ≤ sum f d) → f k ≤ sum f (suc d)
+    go true e r = rw (eqb-true k (suc d) e) (omega arith)
+    go false e r = omega (arith, r (omega (arith, eqb-false k (suc d) e)))
+
+-- sums modulo P
+
+module _ (P : ℕ) where
+  pub mod-below : (n : ℕ) (x f : ℕ → ℕ) → ((k : ℕ) → k < n → x k ≡ f k % P) → sumBelow n x % P ≡ sumBelow n f % P
+  mod-below zero x f h = refl
+  mod-below (suc n) x f h =
+      add-mod (x n) (sumBelow n x) P
+      ∙ ap₂ (λ (a b : ℕ). (a + b) % P) (ap (λ (a : ℕ). a % P) (h n (omega arith)) ∙ mod-mod (f n) P) (mod-below n x f (λ k l. h k (omega arith)))
+      ∙ sym (add-mod (f n) (sumBelow n f) P)
+
+  -- one more stage of sums modulo P is one more fold
+  pub mod-stage : (n m : ℕ) (f x y : ℕ → ℕ) → ((k : ℕ) → k < m → x k ≡ sums n f k % P) → ((k : ℕ) → k < m → y k ≡ sumBelow (suc k) x % P)
+      → (k : ℕ) → k < m → y k ≡ sums (suc n) f k % P
+  mod-stage n m f x y g h k l =
+      h k l ∙ mod-below (suc k) x (sums n f) (λ j i. g j (omega arith)) ∙ sym (ap (λ (a : ℕ). a % P) (sum-below (sums n f) k))
+
+  module _ (above : 0 < P) where
+    residue-mod : (z : ℤ) → residue P z % P ≡ residue P z
+    residue-mod z = mod-eq-of-lt (residue-lt P above z)
+
+    -- the sum of residues has the residue of the sum
+    pub residue-sum : (m : ℕ) (f : ℕ → ℤ) (x : ℕ → ℕ) → ((k : ℕ) → k < m → x k % P ≡ residue P (f k)) → (k : ℕ) → k < m → sum x k % P ≡ residue P (sumℤ f k)
+    residue-sum m f x h zero l = h zero l
+    residue-sum m f x h (suc k) l =
+        add-mod (x (suc k)) (sum x k) P
+        ∙ ap₂ (λ (a b : ℕ). (a + b) % P) (h (suc k) l) (residue-sum m f x h k (omega arith))
+        ∙ sym (residue-add P above (f (suc k)) (sumℤ f k))
+
+    -- and n-fold sums
+    pub residue-sums : (n m : ℕ) (f : ℕ → ℤ) (x : ℕ → ℕ) → ((k : ℕ) → k < m → x k ≡ residue P (f k)) → (k : ℕ) → k < m → sums n x k % P ≡ residue P (sumsℤ n f k)
+    residue-sums zero m f x h k l = ap (λ (a : ℕ). a % P) (h k l) ∙ residue-mod (f k)
+    residue-sums (suc n) m f x h k l = residue-sum m (sumsℤ n f) (sums n x) (residue-sums n m f x h) k l

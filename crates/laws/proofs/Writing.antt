@@ -8,16 +8,14 @@
 --   monomialBytes-next, exponentBytes-next    the bytes of one exponent more, and of one monomial more
 --   written-sets, answer-sets    a record written part by part, over what an output held
 use mathlib.Core.Path.{_≡_, refl, sym, ap, ap₂, _∙_}
-use mathlib.Core.Logic.{_≢_}
 use mathlib.Core.List.{List, [], _∷_, _++_, append-assoc, append-nil}
 use Prim.Native.Nat.{ℕ, zero, suc, _+_, _*_, _-_, _≤_, _<_, _/_, _%_, _^_}
 use native.Mathlib.Omega.{arith}
-use native.Mathlib.Numerals.{add-one}
-use native.Mathlib.Nat.{add-assoc, add-zero, add-suc, pow-succ', mul-comm, div-div-eq-div-mul}
+use native.Mathlib.Nat.{add-zero, pow-succ', mul-comm, div-div-eq-div-mul}
 use lib.Arith.{digits-div}
 use lib.Pow.{pow-add}
 use lib.ListN.{length, getD, take, drop, set}
-use lib.Seq.{sets, sets-eq, set-comm, take-suc}
+use lib.Seq.{sets, sets-eq, set-comm}
 use Rattle.laws.specs.Ideal.{Width}
 use Rattle.laws.specs.Record.{bigEndian, framed, monomialBytes, exponentBytes, header, written, answerRecord}
 use Rattle.laws.proofs.Monomial.{cons-eq}

@@ -1,2 +1,4 @@
 -- The proofs of layer 1.
-mod Cells
+mod Checks
+mod Pairs
+pub mod Determined

@@ -1,5 +1,6 @@
 -- The calls on monomials: each one's checks in their order, its answer, and what its output then holds. W is the greatest width, E the
 -- greatest exponent.
+--   orderOf o         == a comparison's outcome as the code's Order
 --   differ a n        == check 3: a has another width than n
 --   atMost E m        == each exponent of m is at most E
 --   ..Checks          == the order of checks of a call
@@ -9,13 +10,12 @@
 use mathlib.Core.Bool.{Bool, true, false, not, _&&_}
 use mathlib.Core.List.{List, [], _∷_, _++_}
 use mathlib.Core.Option.{Option, none, some}
-use Prim.Native.Nat.{ℕ, Ordering}
+use Prim.Native.Nat.{ℕ, Ordering, Ordering·lt, Ordering·eq, Ordering·gt}
 use lib.Dec.{leb, eqb}
 use lib.ListN.{length}
 use Rattle.laws.specs.Monomial.{degree, exponent, divides, product, quotient, lcm, gcd, coprime, power}
 use Rattle.laws.specs.Order.{lex, degrevlex}
 use Rattle.monomials.specs.Refusal.{Check, refusal, after, tooWide}
-use Rattle.monomials.specs.Cells.{orderOf}
 use Rattle.monomials.specs.declared.refusal.Refusal.{Refusal}
 use Rattle.monomials.specs.declared.refusal.Refusal.the-variants.{Cells, Place, Exponent, Division}
 use Rattle.monomials.specs.declared.monomial.NumberOutcome.{NumberOutcome}
@@ -24,6 +24,8 @@ use Rattle.monomials.specs.declared.monomial.WriteOutcome.{WriteOutcome}
 use Rattle.monomials.specs.declared.monomial.WriteAnswer.{WriteAnswer}
 use Rattle.monomials.specs.declared.monomial.TestOutcome.{TestOutcome}
 use Rattle.monomials.specs.declared.monomial.TestAnswer.{TestAnswer}
+use Rattle.monomials.specs.declared.monomial.Order.{Order}
+use Rattle.monomials.specs.declared.monomial.Order.the-variants.{Less, Equal, Greater}
 use Rattle.monomials.specs.declared.monomial.OrderOutcome.{OrderOutcome}
 use Rattle.monomials.specs.declared.monomial.OrderAnswer.{OrderAnswer}
 
@@ -40,6 +42,11 @@ writeAnswer (some r) = record { outcome = WriteOutcome.Refused r }
 abbrev pub testAnswer : Option Refusal → Bool → TestAnswer
 testAnswer none b = record { outcome = TestOutcome.Value b }
 testAnswer (some r) b = record { outcome = TestOutcome.Refused r }
+
+abbrev pub orderOf : Ordering → Order
+orderOf Ordering·lt = Less
+orderOf Ordering·eq = Equal
+orderOf Ordering·gt = Greater
 
 abbrev pub orderAnswer : Option Refusal → Ordering → OrderAnswer
 orderAnswer none o = record { outcome = OrderOutcome.Value (orderOf o) }

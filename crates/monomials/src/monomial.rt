@@ -1,15 +1,22 @@
 // Monomials as slices of exponents, the first variable's first. Each call checks widths before all else, and a call that writes tests every
 // variable before it writes a cell, so that after a refusal the output holds what it held.
+use crate::cells::Combine;
+use crate::cells::Test;
+use crate::cells::all_cells;
+use crate::cells::wide;
+use crate::cells::wipe;
+use crate::cells::write_cells;
 use crate::refusal::MAX_EXPONENT;
 use crate::refusal::MAX_WIDTH;
 use crate::refusal::Refusal;
 ghost use mathlib.Core.Path.{_≡_};
 ghost use Prim.Native.Nat.{_≤_, compare};
-ghost use lib.ListN.{length, replicate};
+ghost use lib.ListN.{length};
 ghost use Rattle.laws.specs.Monomial.{degree};
-ghost use Rattle.laws.specs.Order.{lex, revlex};
-ghost use Rattle.monomials.specs.Cells.{orderOf, passesOf, combinedOf, allCells, zipCells};
-ghost use Rattle.monomials.specs.Monomial.{degreeAnswer, exponentAnswer, powerAnswer, productAnswer, quotientAnswer, lcmAnswer, gcdAnswer, dividesAnswer, coprimeAnswer, lexAnswer, degrevlexAnswer, powerCells, productCells, quotientCells, lcmCells, gcdCells};
+ghost use Rattle.laws.specs.Order.{lex, revlex, degrevlex};
+ghost use Rattle.monomials.specs.Refusal.{refusal, after};
+ghost use Rattle.monomials.specs.Cells.{comparedBy, passed, widthChecks, testedAnswer, testedCells, passesOf, combinedOf, allCells, zipCells};
+ghost use Rattle.monomials.specs.Monomial.{orderOf, writeAnswer, testAnswer, orderAnswer, pairChecks, writeChecks, degreeAnswer, exponentAnswer, powerAnswer, productAnswer, quotientAnswer, lcmAnswer, gcdAnswer, dividesAnswer, coprimeAnswer, lexAnswer, degrevlexAnswer, powerCells, productCells, quotientCells, lcmCells, gcdCells};
 
 // A number, or why there is none.
 pub enum NumberOutcome {
@@ -116,22 +123,7 @@ pub fn product(a: &[u16], b: &[u16], out: &mut [u16]) -> WriteAnswer
     ensures { λ r. do ⌜ r ≡ productAnswer (← ⟦MAX_WIDTH⟧ .entry) (← ⟦MAX_EXPONENT⟧ .entry) (now (a .entry)) (now (b .entry)) (now (out .entry)) ⌝ }
     ensures { λ r. do ⌜ now (out .exit) ≡ productCells (← ⟦MAX_WIDTH⟧ .entry) (← ⟦MAX_EXPONENT⟧ .entry) (now (a .entry)) (now (b .entry)) (now (out .entry)) ⌝ }
 {
-    if MAX_WIDTH < a.len() {
-        return refused(Refusal::Width);
-    }
-    if b.len() != a.len() {
-        return refused(Refusal::Cells);
-    }
-    if out.len() != a.len() {
-        return refused(Refusal::Cells);
-    }
-    if !all_cells(Test::SumFits, a, b) {
-        return refused(Refusal::Exponent);
-    }
-    write_cells(Combine::Sum, a, b, out);
-    WriteAnswer {
-        outcome: WriteOutcome::Written,
-    }
+    write_if(Test::SumFits, Refusal::Exponent, Combine::Sum, a, b, out)
 }
 
 // a divided by b.
@@ -139,22 +131,14 @@ pub fn quotient(a: &[u16], b: &[u16], out: &mut [u16]) -> WriteAnswer
     ensures { λ r. do ⌜ r ≡ quotientAnswer (← ⟦MAX_WIDTH⟧ .entry) (now (a .entry)) (now (b .entry)) (now (out .entry)) ⌝ }
     ensures { λ r. do ⌜ now (out .exit) ≡ quotientCells (← ⟦MAX_WIDTH⟧ .entry) (now (a .entry)) (now (b .entry)) (now (out .entry)) ⌝ }
 {
-    if MAX_WIDTH < a.len() {
-        return refused(Refusal::Width);
-    }
-    if b.len() != a.len() {
-        return refused(Refusal::Cells);
-    }
-    if out.len() != a.len() {
-        return refused(Refusal::Cells);
-    }
-    if !all_cells(Test::AtMost, b, a) {
-        return refused(Refusal::Division);
-    }
-    write_cells(Combine::Difference, a, b, out);
-    WriteAnswer {
-        outcome: WriteOutcome::Written,
-    }
+    write_if(
+        Test::AtLeast,
+        Refusal::Division,
+        Combine::Difference,
+        a,
+        b,
+        out,
+    )
 }
 
 // The lcm of a and b.
@@ -162,19 +146,7 @@ pub fn lcm(a: &[u16], b: &[u16], out: &mut [u16]) -> WriteAnswer
     ensures { λ r. do ⌜ r ≡ lcmAnswer (← ⟦MAX_WIDTH⟧ .entry) (now (a .entry)) (now (b .entry)) (now (out .entry)) ⌝ }
     ensures { λ r. do ⌜ now (out .exit) ≡ lcmCells (← ⟦MAX_WIDTH⟧ .entry) (now (a .entry)) (now (b .entry)) (now (out .entry)) ⌝ }
 {
-    if MAX_WIDTH < a.len() {
-        return refused(Refusal::Width);
-    }
-    if b.len() != a.len() {
-        return refused(Refusal::Cells);
-    }
-    if out.len() != a.len() {
-        return refused(Refusal::Cells);
-    }
-    write_cells(Combine::Greater, a, b, out);
-    WriteAnswer {
-        outcome: WriteOutcome::Written,
-    }
+    write_pair(Combine::Greater, a, b, out)
 }
 
 // The gcd of a and b.
@@ -182,6 +154,81 @@ pub fn gcd(a: &[u16], b: &[u16], out: &mut [u16]) -> WriteAnswer
     ensures { λ r. do ⌜ r ≡ gcdAnswer (← ⟦MAX_WIDTH⟧ .entry) (now (a .entry)) (now (b .entry)) (now (out .entry)) ⌝ }
     ensures { λ r. do ⌜ now (out .exit) ≡ gcdCells (← ⟦MAX_WIDTH⟧ .entry) (now (a .entry)) (now (b .entry)) (now (out .entry)) ⌝ }
 {
+    write_pair(Combine::Smaller, a, b, out)
+}
+
+// Whether a divides b.
+pub fn divides(a: &[u16], b: &[u16]) -> TestAnswer
+    ensures { λ r. do ⌜ r ≡ dividesAnswer (← ⟦MAX_WIDTH⟧ .entry) (now (a .entry)) (now (b .entry)) ⌝ }
+{
+    test_pair(Test::AtMost, a, b)
+}
+
+// Whether no variable stands in both.
+pub fn is_coprime(a: &[u16], b: &[u16]) -> TestAnswer
+    ensures { λ r. do ⌜ r ≡ coprimeAnswer (← ⟦MAX_WIDTH⟧ .entry) (now (a .entry)) (now (b .entry)) ⌝ }
+{
+    test_pair(Test::Apart, a, b)
+}
+
+// a against b by Lex.
+pub fn cmp_lex(a: &[u16], b: &[u16]) -> OrderAnswer
+    ensures { λ r. do ⌜ r ≡ lexAnswer (← ⟦MAX_WIDTH⟧ .entry) (now (a .entry)) (now (b .entry)) ⌝ }
+{
+    cmp_pair(MonomialOrder::Lex, a, b)
+}
+
+// a against b by DegRevLex.
+pub fn cmp_degrevlex(a: &[u16], b: &[u16]) -> OrderAnswer
+    ensures { λ r. do ⌜ r ≡ degrevlexAnswer (← ⟦MAX_WIDTH⟧ .entry) (now (a .entry)) (now (b .entry)) ⌝ }
+{
+    cmp_pair(MonomialOrder::DegRevLex, a, b)
+}
+
+fn refused(refusal: Refusal) -> WriteAnswer
+    ensures { λ r. ⌜ r ≡ record { outcome = WriteOutcome.Refused refusal } ⌝ }
+{
+    WriteAnswer {
+        outcome: WriteOutcome::Refused(refusal),
+    }
+}
+
+// Whether a and b, and an output of n cells, have one width that is allowed.
+fn one_width(a: &[u16], b: &[u16], n: usize) -> bool
+    ensures { λ r. do ⌜ r ≡ passed (widthChecks (← ⟦MAX_WIDTH⟧ .entry) (now (a .entry)) (now (b .entry)) n) ⌝ }
+{
+    if MAX_WIDTH < a.len() {
+        return false;
+    }
+    if b.len() != a.len() {
+        return false;
+    }
+    n == a.len()
+}
+
+// Writes what is made of a and b, if the three have one width and each variable's exponents pass; where they do not, that is the refusal.
+fn write_if(
+    test: Test,
+    refusal: Refusal,
+    op: Combine,
+    a: &[u16],
+    b: &[u16],
+    out: &mut [u16],
+) -> WriteAnswer
+    ensures { λ r. do ⌜ r ≡ testedAnswer (← ⟦MAX_WIDTH⟧ .entry) (← ⟦MAX_EXPONENT⟧ .entry) test refusal (now (a .entry)) (now (b .entry)) (now (out .entry)) ⌝ }
+    ensures { λ r. do ⌜ now (out .exit) ≡ testedCells (← ⟦MAX_WIDTH⟧ .entry) (← ⟦MAX_EXPONENT⟧ .entry) test refusal op (now (a .entry)) (now (b .entry)) (now (out .entry)) ⌝ }
+{
+    if one_width(a, b, out.len()) && !all_cells(test, a, b) {
+        return refused(refusal);
+    }
+    write_pair(op, a, b, out)
+}
+
+// Writes what is made of a and b, if the three have one width.
+fn write_pair(op: Combine, a: &[u16], b: &[u16], out: &mut [u16]) -> WriteAnswer
+    ensures { λ r. do ⌜ r ≡ writeAnswer (refusal (writeChecks (← ⟦MAX_WIDTH⟧ .entry) (now (a .entry)) (now (b .entry)) (now (out .entry)))) ⌝ }
+    ensures { λ r. do ⌜ now (out .exit) ≡ after (refusal (writeChecks (← ⟦MAX_WIDTH⟧ .entry) (now (a .entry)) (now (b .entry)) (now (out .entry)))) (zipCells (combinedOf op) (now (a .entry)) (now (b .entry))) (now (out .entry)) ⌝ }
+{
     if MAX_WIDTH < a.len() {
         return refused(Refusal::Width);
     }
@@ -191,15 +238,15 @@ pub fn gcd(a: &[u16], b: &[u16], out: &mut [u16]) -> WriteAnswer
     if out.len() != a.len() {
         return refused(Refusal::Cells);
     }
-    write_cells(Combine::Smaller, a, b, out);
+    write_cells(op, a, b, out);
     WriteAnswer {
         outcome: WriteOutcome::Written,
     }
 }
 
-// Whether a divides b.
-pub fn divides(a: &[u16], b: &[u16]) -> TestAnswer
-    ensures { λ r. do ⌜ r ≡ dividesAnswer (← ⟦MAX_WIDTH⟧ .entry) (now (a .entry)) (now (b .entry)) ⌝ }
+// Whether each variable's exponents pass, if the two have one width.
+fn test_pair(test: Test, a: &[u16], b: &[u16]) -> TestAnswer
+    ensures { λ r. do ⌜ r ≡ testAnswer (refusal (pairChecks (← ⟦MAX_WIDTH⟧ .entry) (now (a .entry)) (now (b .entry)))) (allCells (passesOf (← ⟦MAX_EXPONENT⟧ .entry) test) (now (a .entry)) (now (b .entry))) ⌝ }
 {
     if MAX_WIDTH < a.len() {
         return TestAnswer {
@@ -212,32 +259,19 @@ pub fn divides(a: &[u16], b: &[u16]) -> TestAnswer
         };
     }
     TestAnswer {
-        outcome: TestOutcome::Value(all_cells(Test::AtMost, a, b)),
+        outcome: TestOutcome::Value(all_cells(test, a, b)),
     }
 }
 
-// Whether no variable stands in both.
-pub fn is_coprime(a: &[u16], b: &[u16]) -> TestAnswer
-    ensures { λ r. do ⌜ r ≡ coprimeAnswer (← ⟦MAX_WIDTH⟧ .entry) (now (a .entry)) (now (b .entry)) ⌝ }
-{
-    if MAX_WIDTH < a.len() {
-        return TestAnswer {
-            outcome: TestOutcome::Refused(Refusal::Width),
-        };
-    }
-    if b.len() != a.len() {
-        return TestAnswer {
-            outcome: TestOutcome::Refused(Refusal::Cells),
-        };
-    }
-    TestAnswer {
-        outcome: TestOutcome::Value(all_cells(Test::Apart, a, b)),
-    }
+// The two orders.
+enum MonomialOrder {
+    Lex,
+    DegRevLex,
 }
 
-// a against b by Lex.
-pub fn cmp_lex(a: &[u16], b: &[u16]) -> OrderAnswer
-    ensures { λ r. do ⌜ r ≡ lexAnswer (← ⟦MAX_WIDTH⟧ .entry) (now (a .entry)) (now (b .entry)) ⌝ }
+// How a compares with b, if the two have one width.
+fn cmp_pair(by: MonomialOrder, a: &[u16], b: &[u16]) -> OrderAnswer
+    ensures { λ r. do ⌜ r ≡ orderAnswer (refusal (pairChecks (← ⟦MAX_WIDTH⟧ .entry) (now (a .entry)) (now (b .entry)))) (comparedBy by (now (a .entry)) (now (b .entry))) ⌝ }
 {
     if MAX_WIDTH < a.len() {
         return OrderAnswer {
@@ -249,44 +283,13 @@ pub fn cmp_lex(a: &[u16], b: &[u16]) -> OrderAnswer
             outcome: OrderOutcome::Refused(Refusal::Cells),
         };
     }
-    OrderAnswer {
-        outcome: OrderOutcome::Value(lex_order(a, b)),
-    }
-}
-
-// a against b by DegRevLex.
-pub fn cmp_degrevlex(a: &[u16], b: &[u16]) -> OrderAnswer
-    ensures { λ r. do ⌜ r ≡ degrevlexAnswer (← ⟦MAX_WIDTH⟧ .entry) (now (a .entry)) (now (b .entry)) ⌝ }
-{
-    if MAX_WIDTH < a.len() {
-        return OrderAnswer {
-            outcome: OrderOutcome::Refused(Refusal::Width),
-        };
-    }
-    if b.len() != a.len() {
-        return OrderAnswer {
-            outcome: OrderOutcome::Refused(Refusal::Cells),
-        };
-    }
-    let order = compared(degree_of(a), degree_of(b));
-    match order {
-        Order::Less => OrderAnswer {
-            outcome: OrderOutcome::Value(Order::Less),
+    match by {
+        MonomialOrder::Lex => OrderAnswer {
+            outcome: OrderOutcome::Value(lex_order(a, b)),
         },
-        Order::Equal => OrderAnswer {
-            outcome: OrderOutcome::Value(revlex_order(a, b)),
+        MonomialOrder::DegRevLex => OrderAnswer {
+            outcome: OrderOutcome::Value(degrevlex_order(a, b)),
         },
-        Order::Greater => OrderAnswer {
-            outcome: OrderOutcome::Value(Order::Greater),
-        },
-    }
-}
-
-fn refused(refusal: Refusal) -> WriteAnswer
-    ensures { λ r. ⌜ r ≡ record { outcome = WriteOutcome.Refused refusal } ⌝ }
-{
-    WriteAnswer {
-        outcome: WriteOutcome::Refused(refusal),
     }
 }
 
@@ -329,6 +332,20 @@ fn lex_order(a: &[u16], b: &[u16]) -> Order
     Order::Equal
 }
 
+// By the degrees, or else by the last variable in which they differ.
+fn degrevlex_order(a: &[u16], b: &[u16]) -> Order
+    requires { do ⌜ length (now a) ≤ (← ⟦MAX_WIDTH⟧) ⌝ }
+    requires { ⌜ length (now b) ≡ length (now a) ⌝ }
+    ensures { λ r. ⌜ r ≡ orderOf (degrevlex (now (a .entry)) (now (b .entry))) ⌝ }
+{
+    let order = compared(degree_of(a), degree_of(b));
+    match order {
+        Order::Less => Order::Less,
+        Order::Equal => revlex_order(a, b),
+        Order::Greater => Order::Greater,
+    }
+}
+
 // By the last variable in which they differ, the smaller exponent being the greater.
 fn revlex_order(a: &[u16], b: &[u16]) -> Order
     requires { ⌜ length (now b) ≡ length (now a) ⌝ }
@@ -342,92 +359,4 @@ fn revlex_order(a: &[u16], b: &[u16]) -> Order
         }
     }
     Order::Equal
-}
-
-// What is asked of the two exponents of each variable.
-enum Test {
-    // The first is at most the second.
-    AtMost,
-    // One of them is 0.
-    Apart,
-    // Their sum fits a cell.
-    SumFits,
-}
-
-fn passes(test: Test, x: u16, y: u16) -> bool
-    ensures { λ r. do ⌜ r ≡ passesOf (← ⟦MAX_EXPONENT⟧ .entry) test x y ⌝ }
-{
-    match test {
-        Test::AtMost => x <= y,
-        Test::Apart => x == 0 || y == 0,
-        Test::SumFits => (x as u32) + (y as u32) <= MAX_EXPONENT,
-    }
-}
-
-// Whether each variable's exponents pass.
-fn all_cells(test: Test, a: &[u16], b: &[u16]) -> bool
-    requires { ⌜ length (now b) ≡ length (now a) ⌝ }
-    ensures { λ r. do ⌜ r ≡ allCells (passesOf (← ⟦MAX_EXPONENT⟧ .entry) test) (now (a .entry)) (now (b .entry)) ⌝ }
-{
-    let mut i: usize = 0;
-    while i < a.len() {
-        if !passes(test, a[i], b[i]) {
-            return false;
-        }
-        i += 1;
-    }
-    true
-}
-
-// What is made of the two exponents of each variable.
-enum Combine {
-    // Their sum, modulo the size of a cell.
-    Sum,
-    // The first less the second, and never below 0.
-    Difference,
-    // The greater.
-    Greater,
-    // The smaller.
-    Smaller,
-}
-
-fn combined(op: Combine, x: u16, y: u16) -> u16
-    ensures { λ r. ⌜ r ≡ combinedOf op x y ⌝ }
-{
-    match op {
-        Combine::Sum => (((x as u32) + (y as u32)) % 65536) as u16,
-        Combine::Difference => if x < y { 0 } else { x - y },
-        Combine::Greater => if x < y { y } else { x },
-        Combine::Smaller => if x < y { x } else { y },
-    }
-}
-
-// Writes what is made of a and b, variable by variable.
-fn write_cells(op: Combine, a: &[u16], b: &[u16], out: &mut [u16])
-    requires { ⌜ length (now b) ≡ length (now a) ⌝ }
-    requires { ⌜ length (now out) ≡ length (now a) ⌝ }
-    ensures { λ _. ⌜ now (out .exit) ≡ zipCells (combinedOf op) (now (a .entry)) (now (b .entry)) ⌝ }
-{
-    let mut i: usize = 0;
-    while i < a.len() {
-        out[i] = combined(op, a[i], b[i]);
-        i += 1;
-    }
-}
-
-// Zero in every cell.
-fn wipe(out: &mut [u16])
-    ensures { λ _. ⌜ now (out .exit) ≡ replicate (length (now (out .entry))) 0 ⌝ }
-{
-    let mut i: usize = 0;
-    while i < out.len() {
-        out[i] = 0;
-        i += 1;
-    }
-}
-
-fn wide(x: u16) -> u64
-    ensures { λ r. ⌜ (r ≡ x) × (r ≤ 65535) ⌝ }
-{
-    x as u64
 }

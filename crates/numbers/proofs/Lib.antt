@@ -5,6 +5,11 @@ mod Capped
 mod Numbers
 mod Settled
 mod NumeratorCall
+mod UpdateCall
+mod LeastPowers
+mod WideSums
+mod DimensionCall
 pub mod SignedValue
 pub mod DeterminedHilbert
 pub mod DeterminedNumerator
+pub mod DeterminedDimension

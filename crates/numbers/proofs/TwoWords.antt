@@ -137,7 +137,7 @@ product-halves a b h k =
     b₁ : ℕ
     b₁ = b / 2 ^ 32
 
-passes : (v : ℕ) → 2 ^ 127 ≤ v → Passed ≡ productAnswer v
+pub passes : (v : ℕ) → 2 ^ 127 ≤ v → Passed ≡ productAnswer v
 passes v h = rw (le-ltb v (2 ^ 127) h)
 
 -- a number below 2^127 has a high word below 2^63

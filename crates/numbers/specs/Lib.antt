@@ -4,3 +4,6 @@ pub mod Coefficients
 pub mod Hilbert
 pub mod HilbertParts
 pub mod Numerator
+pub mod Update
+pub mod Dimension
+pub mod DimensionParts

@@ -4,6 +4,7 @@
 --   padded z k p old        == the same with p in front: p, then z up to the asked size k, then what stood there
 --   tooMany C s             == check 2: more than C monomials
 --   notCells n s cells      == check 3: the cells are not s · n
+--   listChecks W C n s cells == the checks of a list: 1, 2, 3
 --   cellRoom k room         == check 7: fewer than k exponent cells
 --   coefficientRooms k p q  == check 8: either coefficient room is shorter than k
 --   numeratorChecks         == the order of checks: 1, 2, 3, 7, 8
@@ -42,6 +43,9 @@ tooMany C s = (ltb C s, Count)
 abbrev pub notCells : ℕ → ℕ → List ℕ → Check
 notCells n s cells = (not (eqb (length cells) (s * n)), Cells)
 
+abbrev pub listChecks : ℕ → ℕ → ℕ → ℕ → List ℕ → List Check
+listChecks W C n s cells = tooWide W n ∷ tooMany C s ∷ notCells n s cells ∷ []
+
 abbrev pub cellRoom : ℕ → List ℕ → Check
 cellRoom k room = (ltb (length room) k, CellRoom)
 
@@ -50,10 +54,8 @@ coefficientRooms k p q = (ltb (length p) k || ltb (length q) k, CoefficientRoom)
 
 abbrev pub numeratorChecks : ℕ → ℕ → ℕ → ℕ → List ℕ → List ℕ → List ℤ → List ℤ → List Check
 numeratorChecks W C n s cells room p q =
-    tooWide W n
-    ∷ tooMany C s
-    ∷ notCells n s cells
-    ∷ cellRoom (cellsAsked n (listed n s cells)) room
+    listChecks W C n s cells
+    ++ cellRoom (cellsAsked n (listed n s cells)) room
     ∷ coefficientRooms (coefficientsAsked (listed n s cells)) p q
     ∷ []
 

@@ -147,7 +147,7 @@ fn capped_add(a: Wide, b: Wide) -> Wide
 }
 
 // Number k of the words.
-fn number_at(words: &[u64], k: usize) -> Wide
+pub(crate) fn number_at(words: &[u64], k: usize) -> Wide
     requires { ⌜ 2 * k + 1 < length (now words) ⌝ }
     ensures { λ r. ⌜ value r ≡ numberAt (now (words .entry)) k ⌝ }
 {
@@ -158,7 +158,7 @@ fn number_at(words: &[u64], k: usize) -> Wide
 }
 
 // w becomes number k of the words.
-fn put_number(words: &mut [u64], k: usize, w: Wide)
+pub(crate) fn put_number(words: &mut [u64], k: usize, w: Wide)
     requires { ⌜ 2 * k + 1 < length (now words) ⌝ }
     ensures { λ _. ⌜ now (words .exit) ≡ set (set (now (words .entry)) (2 * k) (w .low)) (2 * k + 1) (w .high) ⌝ }
 {
@@ -177,7 +177,7 @@ fn part_of(part: Part, a: i64) -> u64
 }
 
 // The first `count` words become 0.
-fn wipe(words: &mut [u64], count: usize)
+pub(crate) fn wipe(words: &mut [u64], count: usize)
     requires { ⌜ count ≤ length (now words) ⌝ }
     ensures { λ _. ⌜ now (words .exit) ≡ replicate count 0 ++ drop count (now (words .entry)) ⌝ }
 {

@@ -2,6 +2,7 @@
 mod asked;
 mod branch;
 pub mod coefficients;
+pub mod dimension;
 mod engine;
 mod few;
 pub mod hf_at;
@@ -11,6 +12,10 @@ mod minimal;
 pub mod numerator;
 mod parts;
 mod pivot;
+mod powers;
+mod quotients;
 mod rows;
 pub mod signed;
+mod totals;
+pub mod update;
 pub mod wide;

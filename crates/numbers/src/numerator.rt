@@ -80,7 +80,7 @@ pub fn hilbert_numerator(
 }
 
 // The refusal as an answer.
-fn refused(refusal: Refusal) -> LengthAnswer
+pub(crate) fn refused(refusal: Refusal) -> LengthAnswer
     ensures { λ r. ⌜ r ≡ record { outcome = LengthOutcome.Refused refusal } ⌝ }
 {
     LengthAnswer {
@@ -89,7 +89,7 @@ fn refused(refusal: Refusal) -> LengthAnswer
 }
 
 // The numerator in `first`, of its asked size, and its trimmed length; `room` and `second` are left at zero.
-fn numerator_in(
+pub(crate) fn numerator_in(
     n: usize,
     s: usize,
     cells: &[u16],

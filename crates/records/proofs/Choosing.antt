@@ -8,14 +8,14 @@
 --   chosen-more, chosen-same       the minimal monomials from place i on, greatest first
 --   rowsAt-width, spread-next      the bytes of the monomials at places, one monomial more
 -- Assumes nothing.
-use mathlib.Core.Path.{_≡_, refl, sym, ap, ap₂, _∙_}
+use mathlib.Core.Path.{_≡_, refl, sym, ap, _∙_}
 use mathlib.Core.Logic.{inl, inr}
-use mathlib.Core.Bool.{Bool, true, false, cond}
+use mathlib.Core.Bool.{true, false, cond}
 use mathlib.Core.List.{List, [], _∷_, _++_}
 use Prim.Native.Nat.{ℕ, zero, suc, _+_, _*_, _-_, _≤_, _<_, Ordering, Ordering·lt, Ordering·eq, Ordering·gt}
 use native.Mathlib.Omega.{arith}
 use native.Mathlib.Numerals.{add-one}
-use lib.ListN.{length, getD, take, drop, set, length-take, length-drop, length-map, List·getD-append, drop-of-length-le}
+use lib.ListN.{length, getD, take, drop, set, length-take, length-map, List·getD-append, drop-of-length-le}
 use lib.Seq.{drop-cons, getD-take, take-suc, take-set-lt, take-take, sets}
 use Rattle.laws.specs.Ideal.{listed, Width}
 use Rattle.laws.specs.Count.{keep}

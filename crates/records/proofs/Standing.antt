@@ -24,7 +24,7 @@ use Rattle.laws.specs.Record.{isRecord, exponentsIn, listIn, widthIn, countIn}
 use Rattle.laws.proofs.Monomial.{and-left, and-right, bool-ext}
 use Rattle.laws.proofs.Minimal.{Chain, Undivided}
 use Rattle.laws.proofs.Record.{value}
-use Rattle.laws.proofs.Reading.{cellsIn-length, Tests, record-tests}
+use Rattle.laws.proofs.Reading.{cellsIn-length, record-tests}
 use Rattle.records.specs.Rows.{row, isGreater, above, stands, headerStands}
 use Rattle.records.proofs.Cells.{listed-next}
 

@@ -8,7 +8,7 @@ use mathlib.Core.Bool.{cond}
 use mathlib.Core.List.{List, [], _∷_, _++_}
 use Prim.Native.Nat.{ℕ}
 use lib.Dec.{ltb, eqb}
-use lib.ListN.{length, drop}
+use lib.ListN.{length, drop, replicate}
 use Rattle.laws.specs.Record.{answerRecord}
 use Rattle.monomials.specs.Refusal.{Check, refusal, after}
 use Rattle.monomials.specs.declared.refusal.Refusal.the-variants.{Output}
@@ -26,3 +26,13 @@ answerOutcome S out = checkAnswer (refusal (answerChecks S out))
 
 abbrev pub answerBytes : ℕ → ℕ → ℕ → ℕ → List ℕ → List ℕ
 answerBytes S s x t out = after (refusal (answerChecks S out)) (answerOf s x t ++ drop S out) out
+
+-- with a refusal both numbers are zero
+test-refused : answerOf 13 3 2 ≡ answerRecord 13 0 0
+test-refused = refl
+
+test-kept : answerBytes 26 0 3 2 (replicate 27 7) ≡ answerRecord 0 3 2 ++ 7 ∷ []
+test-kept = refl
+
+test-short : answerBytes 26 0 3 2 (replicate 25 7) ≡ replicate 25 7
+test-short = refl

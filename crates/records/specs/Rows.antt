@@ -10,10 +10,9 @@
 --   seatOf a K        == how many of K are greater than a, before the first that is not
 --   sameAt a K        == a is the first of K
 -- Assumes nothing.
-use mathlib.Core.Path.{_≡_, refl}
 use mathlib.Core.Bool.{Bool, true, false, not, _&&_, cond}
 use mathlib.Core.List.{List, [], _∷_, map}
-use Prim.Native.Nat.{ℕ, zero, suc, _+_, _*_, _-_, _<_, Ordering, Ordering·lt, Ordering·eq, Ordering·gt}
+use Prim.Native.Nat.{ℕ, suc, _+_, _*_, _-_, _<_, Ordering, Ordering·lt, Ordering·eq, Ordering·gt}
 use lib.Dec.{leb, eqb}
 use lib.ListN.{length, getD, take, drop}
 use Rattle.laws.specs.Ideal.{multiple}

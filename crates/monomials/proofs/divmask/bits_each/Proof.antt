@@ -18,4 +18,7 @@ bits-each-spec =
     -- returns-2
     (λ c. (sym (each-wide (c .before .before .args .n) (c .if2 .taken)), omega arith, omega arith))
     -- returns-3
-    (λ c. let n = c .before .before .args .n in let e : bitsEach n ≡ 128 / n = each-narrow n (omega arith) (c .if2 .left) in (sym e, rw (← e) (each-positive n), rw (← e) (each-le n))))
+    (λ c.
+    let n = c .before .before .args .n in
+    let e : bitsEach n ≡ 128 / n = each-narrow n (omega arith) (c .if2 .left) in
+    (sym e, rw (← e) (each-positive n), rw (← e) (each-le n))))

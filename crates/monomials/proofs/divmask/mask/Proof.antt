@@ -24,4 +24,9 @@ mask-spec =
     (λ c κs. search needs)
     (λ c κs. search needs)
     -- returns-2
-    (λ c. let a = c .before .before .before .before .args in let bits : ℕ → Bool = maskBit (a .n) (a .max-deg) (a .exps .now) in simp (le-ltb _ _ (c .before .before .if1 .left)) (ap₂ made (c .before .mask-word .ensures ∙ word-of-ext (λ i. bits (0 + i)) bits (λ i. ap bits (zero-add i)) 64) (c .mask-word2 .ensures))))
+    (λ c.
+    let p2 = c .before .before in
+    let p4 = p2 .before .before in
+    let a = p4 .args in
+    let bits : ℕ → Bool = maskBit (a .n) (a .max-deg) (a .exps .now) in
+    simp (le-ltb _ _ (p2 .if1 .left)) (ap₂ made (c .before .mask-word .ensures ∙ word-of-ext (λ i. bits (0 + i)) bits (λ i. ap bits (zero-add i)) 64) (c .mask-word2 .ensures))))

@@ -14,10 +14,20 @@ mask-bit-spec =
     (λ c κs. search needs)
     (λ c. search needs)
     -- returns
-    (λ c. let a = c .before .before .before .args in sym (mask-bit-outside (a .n) (a .max-deg) (a .i) (c .before .bits-each .result) (a .exps .now) (omega arith) (c .before .bits-each .ensures .0) (c .if1 .taken)))
+    (λ c.
+    let p3 = c .before .before .before in
+    let a = p3 .args in
+    sym (mask-bit-outside (a .n) (a .max-deg) (a .i) (c .before .bits-each .result) (a .exps .now) (omega arith) (c .before .bits-each .ensures .0) (c .if1 .taken)))
     (λ c. search needs)
     -- threshold-of-requires
-    (λ c κs. (omega arith, omega arith, mod-lt (c .before .before .before .args .i) (omega arith)))
+    (λ c κs.
+    let p3 = c .before .before .before in
+    (omega arith, omega arith, mod-lt (p3 .args .i) (omega arith)))
     (λ c κs. search needs)
     -- returns-2
-    (λ c. let a = c .before .before .before .before .before .args in sym (mask-bit-inside (a .n) (a .max-deg) (a .i) (c .before .before .before .bits-each .result) (c .before .threshold-of .result) (c .exponent-at .result) (a .exps .now) (omega arith) (c .before .before .before .bits-each .ensures .0) (c .before .before .if1 .left) (c .before .threshold-of .ensures) (c .exponent-at .ensures))))
+    (λ c.
+    let p2 = c .before .before in
+    let p3 = p2 .before in
+    let p5 = p3 .before .before in
+    let a = p5 .args in
+    sym (mask-bit-inside (a .n) (a .max-deg) (a .i) (p3 .bits-each .result) (c .before .threshold-of .result) (c .exponent-at .result) (a .exps .now) (omega arith) (p3 .bits-each .ensures .0) (p2 .if1 .left) (c .before .threshold-of .ensures) (c .exponent-at .ensures))))

@@ -30,10 +30,27 @@ mask-word-spec =
     -- shl-word
     (λ c. omega arith)
     -- add-word
-    (λ c. let a = c .before .before .before .before .before .args in let i = c .before .before .before .loop .i in omega (arith, shifted-one 64 i (omega arith), word-of-fits (λ (j : ℕ). maskBit (a .n) (a .max-deg) (a .exps .now) (a .start + j)) 64 i (omega arith)))
+    (λ c.
+    let p3 = c .before .before .before in
+    let p5 = p3 .before .before in
+    let a = p5 .args in
+    let i = p3 .loop .i in
+    omega (arith, shifted-one 64 i (omega arith), word-of-fits (λ (j : ℕ). maskBit (a .n) (a .max-deg) (a .exps .now) (a .start + j)) 64 i (omega arith)))
     (λ c. search needs)
     (λ c. search needs)
     -- loop-again
-    (λ c. let a = c .before .before .before .before .before .args in let i = c .before .before .before .loop .i in let e = c .before .mask-bit .ensures in let f : ℕ → Bool = λ j. maskBit (a .n) (a .max-deg) (a .exps .now) (a .start + j) in (omega arith, ⊎-elim (λ w. omega (arith, shifted-one 64 i (omega arith), word-of-set f i (sym e ∙ w .0 .taken))) (λ w. omega (arith, word-of-clear f i (sym e ∙ w .0 .left))) (c .if1 .came)))
+    (λ c.
+    let p3 = c .before .before .before in
+    let p5 = p3 .before .before in
+    let a = p5 .args in
+    let i = p3 .loop .i in
+    let e = c .before .mask-bit .ensures in
+    let f : ℕ → Bool = λ j. maskBit (a .n) (a .max-deg) (a .exps .now) (a .start + j) in
+    (omega arith, ⊎-elim (λ w. omega (arith, shifted-one 64 i (omega arith), word-of-set f i (sym e ∙ w .0 .taken))) (λ w. omega (arith, word-of-clear f i (sym e ∙ w .0 .left))) (c .if1 .came)))
     -- returns
-    (λ c. let a = c .before .before .before .args in let i = c .before .loop .i in let e : i ≡ 64 = omega arith in rw e at (c .before .loop .inv .1)))
+    (λ c.
+    let p3 = c .before .before .before in
+    let a = p3 .args in
+    let i = c .before .loop .i in
+    let e : i ≡ 64 = omega arith in
+    rw e at (c .before .loop .inv .1)))

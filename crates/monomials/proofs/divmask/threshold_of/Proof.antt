@@ -14,7 +14,16 @@ threshold-of-spec =
     (tie.spec
     (λ c. search needs)
     -- mul-result
-    (λ c. let M = c .before .before .args .max-deg in let most = c .before .if1 .most in let small : most ≤ 65535 = ⊎-elim (λ w. omega arith) (λ w. omega arith) (c .before .if1 .came) in omega (arith, mul-le-mul {n₁ = c .before .before .args .k + 1} {m₁ = most} {n₂ = 128} {m₂ = 65535} (omega arith) small))
+    (λ c.
+    let p2 = c .before .before in
+    let M = p2 .args .max-deg in
+    let most = c .before .if1 .most in
+    let small : most ≤ 65535 = ⊎-elim (λ w. omega arith) (λ w. omega arith) (c .before .if1 .came) in
+    omega (arith, mul-le-mul {n₁ = p2 .args .k + 1} {m₁ = most} {n₂ = 128} {m₂ = 65535} (omega arith) small))
     (λ c. search needs)
     -- returns
-    (λ c. let M = c .before .before .args .max-deg in let e : c .before .if1 .most ≡ max M 1 = ⊎-elim (λ w. omega arith) (λ w. omega arith) (c .before .if1 .came) in rw e))
+    (λ c.
+    let p2 = c .before .before in
+    let M = p2 .args .max-deg in
+    let e : c .before .if1 .most ≡ max M 1 = ⊎-elim (λ w. omega arith) (λ w. omega arith) (c .before .if1 .came) in
+    rw e))

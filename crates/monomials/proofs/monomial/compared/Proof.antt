@@ -12,6 +12,10 @@ compared-spec =
     -- returns
     (λ c. rw (says-compare Ordering·lt (c .before .args .x) (c .before .args .y) (c .if1 .taken)))
     -- returns-2
-    (λ c. rw (says-compare Ordering·eq (c .before .before .args .x) (c .before .before .args .y) (c .if2 .taken)))
+    (λ c.
+    let p2 = c .before .before in
+    rw (says-compare Ordering·eq (p2 .args .x) (p2 .args .y) (c .if2 .taken)))
     -- returns-3
-    (λ c. rw (says-compare Ordering·gt (c .before .before .args .x) (c .before .before .args .y) (omega arith))))
+    (λ c.
+    let p2 = c .before .before in
+    rw (says-compare Ordering·gt (p2 .args .x) (p2 .args .y) (omega arith))))

@@ -31,6 +31,15 @@ degree-of-spec =
     (λ c. search needs)
     (λ c. search needs)
     -- loop-again
-    (λ c. let a = c .before .before .before .before .before .args .a .now in let i = c .before .before .before .loop .i in (omega arith, omega arith, omega (arith, ap degree (drop-next a i (omega arith)))))
+    (λ c.
+    let p3 = c .before .before .before in
+    let p5 = p3 .before .before in
+    let a = p5 .args .a .now in
+    let i = p3 .loop .i in
+    (omega arith, omega arith, omega (arith, ap degree (drop-next a i (omega arith)))))
     -- returns
-    (λ c. let a = c .before .before .before .args .a .now in let i = c .before .loop .i in omega (arith, ap degree (drop-of-length-le a {i = i} (omega arith)))))
+    (λ c.
+    let p3 = c .before .before .before in
+    let a = p3 .args .a .now in
+    let i = c .before .loop .i in
+    omega (arith, ap degree (drop-of-length-le a {i = i} (omega arith)))))

@@ -1,7 +1,12 @@
--- `divides` meets its contract, return by return. Rests on `all-divides`.
+-- `divides` meets its contract. Rests on `all-divides`.
 use borrow.Author.Needs.{needs}
-use borrow.Author.Tests.{lt-ltb, le-ltb, eq-eqb, ne-eqb}
-use Rattle.monomials.proofs.Cells.{all-divides}
+use mathlib.Core.Path.{_∙_}
+use Rattle.laws.specs.Monomial.{divides}
+use Rattle.monomials.specs.Cells.{passesOf, allCells}
+use Rattle.monomials.specs.declared.cells.Test.the-variants.{AtMost}
+use Rattle.monomials.specs.Monomial.{pairChecks}
+use Rattle.monomials.proofs.Checks.{maxWidth, maxExponent, pair-width, test-passed}
+use Rattle.monomials.proofs.Pairs.{all-divides}
 use Rattle.monomials.proofs.monomial.divides.Statement.{statement}
 use Rattle.monomials.proofs.monomial.divides.Tie as tie
 
@@ -9,10 +14,11 @@ pub divides-spec : {M : Type 1} → statement M
 divides-spec =
     tie.close
     (tie.spec
-    -- returns
-    (λ c. simp (lt-ltb _ _ (c .if1 .taken)))
-    -- returns-2
-    (λ c. simp (le-ltb _ _ (c .before .if1 .left), ne-eqb _ _ (c .if2 .taken)))
     (λ c κs. search needs)
-    -- returns-3
-    (λ c. let a = c .before .before .before .before .before .args .a .now in let b = c .before .before .before .before .before .args .b .now in simp (le-ltb _ _ (c .before .before .if1 .left), eq-eqb _ _ (c .before .if2 .left), c .all-cells .ensures, all-divides 65535 a b (c .before .if2 .left))))
+    -- returns
+    (λ c.
+    let p3 = c .before .before .before in
+    let a = p3 .args .a .now in
+    let b = p3 .args .b .now in
+    let checks = pairChecks maxWidth a b in
+    c .test-pair .ensures ∙ test-passed checks (allCells (passesOf maxExponent AtMost) a b) (divides a b) (λ h. all-divides maxExponent a b (pair-width maxWidth a b h))))

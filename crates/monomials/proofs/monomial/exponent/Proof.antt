@@ -16,4 +16,7 @@ exponent-spec =
     (λ c. search needs)
     (λ c κs. search needs)
     -- returns-3
-    (λ c. simp (le-ltb _ _ (c .before .before .before .if1 .left), lt-leb _ _ (c .before .before .if2 .left), c .wide .ensures .0)))
+    (λ c.
+    let p2 = c .before .before in
+    let p3 = p2 .before in
+    simp (le-ltb _ _ (p3 .if1 .left), lt-leb _ _ (p2 .if2 .left), c .wide .ensures .0)))

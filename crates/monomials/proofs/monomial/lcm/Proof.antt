@@ -1,8 +1,12 @@
--- `lcm` meets its contract, return by return. Rests on `zip-lcm`.
+-- `lcm` meets its contract. Rests on `zip-lcm`.
 use borrow.Author.Needs.{needs}
 use mathlib.Core.Path.{_∙_}
-use borrow.Author.Tests.{lt-ltb, le-ltb, eq-eqb, ne-eqb}
-use Rattle.monomials.proofs.Cells.{zip-lcm}
+use Rattle.laws.specs.Monomial.{lcm}
+use Rattle.monomials.specs.Cells.{combinedOf, zipCells}
+use Rattle.monomials.specs.declared.cells.Combine.the-variants.{Greater}
+use Rattle.monomials.specs.Monomial.{writeChecks}
+use Rattle.monomials.proofs.Checks.{maxWidth, write-width, after-passed}
+use Rattle.monomials.proofs.Pairs.{zip-lcm}
 use Rattle.monomials.proofs.monomial.lcm.Statement.{statement}
 use Rattle.monomials.proofs.monomial.lcm.Tie as tie
 
@@ -11,15 +15,13 @@ lcm-spec =
     tie.close
     (tie.spec
     (λ c κs. search needs)
-    -- returns
-    (λ c. let h = lt-ltb _ _ (c .before .if1 .taken) in (simp (c .refused .ensures, h), simp h))
-    (λ c κs. search needs)
-    -- returns-2
-    (λ c. let h = le-ltb _ _ (c .before .before .if1 .left) in let k = ne-eqb _ _ (c .before .if2 .taken) in (simp (c .refused2 .ensures, h, k), simp (h, k)))
-    (λ c κs. search needs)
-    -- returns-3
-    (λ c. let h = le-ltb _ _ (c .before .before .before .if1 .left) in let k = eq-eqb _ _ (c .before .before .if2 .left) in let l = ne-eqb _ _ (c .before .if3 .taken) in (simp (c .refused3 .ensures, h, k, l), simp (h, k, l)))
-    (λ c κs. search needs)
     (λ c. search needs)
-    -- returns-4
-    (λ c. let a = c .before .before .before .before .before .before .before .before .before .before .args .a .now in let b = c .before .before .before .before .before .before .before .before .before .before .args .b .now in let h = le-ltb _ _ (c .before .before .before .before .before .before .if1 .left) in let k = eq-eqb _ _ (c .before .before .before .before .before .if2 .left) in let l = eq-eqb _ _ (c .before .before .before .before .if3 .left) in (simp (h, k, l), simp (h, k, l) (c .before .before .write-cells .ensures ∙ zip-lcm a b (c .before .before .before .before .before .if2 .left)))))
+    -- returns
+    (λ c.
+    let p2 = c .before .before in
+    let p7 = p2 .before .before .before .before .before in
+    let a = p7 .args .a .now in
+    let b = p7 .args .b .now in
+    let out = p7 .args .out .now in
+    let checks = writeChecks maxWidth a b out in
+    (p2 .write-pair .ensures .0, p2 .write-pair .ensures .1 ∙ after-passed checks (zipCells (combinedOf Greater) a b) (lcm a b) out (λ h. zip-lcm a b (write-width maxWidth a b out h)))))

@@ -35,10 +35,29 @@ lex-order-spec =
     (λ c κs. search needs)
     (λ c κs. search needs)
     -- returns
-    (λ c. let a = c .before .before .before .before .before .before .before .before .before .before .before .before .args .a .now in let b = c .before .before .before .before .before .before .before .before .before .before .before .before .args .b .now in let i = c .before .before .before .before .before .before .before .before .before .loop .i in rw (c .compared .ensures, c .before .before .before .wide .ensures .0, c .before .wide2 .ensures .0, c .before .before .before .before .before .before .before .before .before .loop .inv .1, lex-differ a b i (omega arith) (omega arith) (c .before .before .before .before .before .if1 .taken)))
+    (λ c.
+    let p3 = c .before .before .before in
+    let p5 = p3 .before .before in
+    let p9 = p5 .before .before .before .before in
+    let p12 = p9 .before .before .before in
+    let a = p12 .args .a .now in
+    let b = p12 .args .b .now in
+    let i = p9 .loop .i in
+    rw (c .compared .ensures, p3 .wide .ensures .0, c .before .wide2 .ensures .0, p9 .loop .inv .1, lex-differ a b i (omega arith) (omega arith) (p5 .if1 .taken)))
     (λ c. search needs)
     (λ c. search needs)
     -- loop-again
-    (λ c. let a = c .before .before .before .before .before .before .before .args .a .now in let b = c .before .before .before .before .before .before .before .args .b .now in let i = c .before .before .before .before .loop .i in (omega arith, c .before .before .before .before .loop .inv .1 ∙ lex-next a b i (omega arith) (omega arith) (c .if1 .left)))
+    (λ c.
+    let p4 = c .before .before .before .before in
+    let p7 = p4 .before .before .before in
+    let a = p7 .args .a .now in
+    let b = p7 .args .b .now in
+    let i = p4 .loop .i in
+    (omega arith, p4 .loop .inv .1 ∙ lex-next a b i (omega arith) (omega arith) (c .if1 .left)))
     -- returns-2
-    (λ c. let a = c .before .before .before .before .args .a .now in let b = c .before .before .before .before .args .b .now in let i = c .before .loop .i in rw (c .before .loop .inv .1, drop-of-length-le a {i = i} (omega arith), drop-of-length-le b {i = i} (omega arith))))
+    (λ c.
+    let p4 = c .before .before .before .before in
+    let a = p4 .args .a .now in
+    let b = p4 .args .b .now in
+    let i = c .before .loop .i in
+    rw (c .before .loop .inv .1, drop-of-length-le a {i = i} (omega arith), drop-of-length-le b {i = i} (omega arith))))

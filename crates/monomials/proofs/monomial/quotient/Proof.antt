@@ -1,10 +1,14 @@
--- `quotient` meets its contract, return by return. Rests on `all-divides` and `zip-quotient`.
+-- `quotient` meets its contract. Rests on `all-divisor` and `zip-quotient`.
 use borrow.Author.Needs.{needs}
-use mathlib.Core.Path.{_≡_, sym, _∙_}
-use mathlib.Core.Bool.{true, false}
-use borrow.Author.Tests.{lt-ltb, le-ltb, eq-eqb, ne-eqb, not-true, not-false}
-use Rattle.laws.specs.Monomial.{divides}
-use Rattle.monomials.proofs.Cells.{all-divides, zip-quotient}
+use mathlib.Core.Path.{_∙_}
+use Rattle.laws.specs.Monomial.{divides, quotient}
+use Rattle.monomials.specs.Cells.{passesOf, combinedOf, allCells, zipCells}
+use Rattle.monomials.specs.declared.cells.Test.the-variants.{AtLeast}
+use Rattle.monomials.specs.declared.cells.Combine.the-variants.{Difference}
+use Rattle.monomials.specs.declared.refusal.Refusal.the-variants.{Division}
+use Rattle.monomials.specs.Monomial.{writeChecks}
+use Rattle.monomials.proofs.Checks.{maxWidth, maxExponent, write-width, tested-passed}
+use Rattle.monomials.proofs.Pairs.{all-divisor, zip-quotient}
 use Rattle.monomials.proofs.monomial.quotient.Statement.{statement}
 use Rattle.monomials.proofs.monomial.quotient.Tie as tie
 
@@ -13,19 +17,13 @@ quotient-spec =
     tie.close
     (tie.spec
     (λ c κs. search needs)
-    -- returns
-    (λ c. let h = lt-ltb _ _ (c .before .if1 .taken) in (simp (c .refused .ensures, h), simp h))
-    (λ c κs. search needs)
-    -- returns-2
-    (λ c. let h = le-ltb _ _ (c .before .before .if1 .left) in let k = ne-eqb _ _ (c .before .if2 .taken) in (simp (c .refused2 .ensures, h, k), simp (h, k)))
-    (λ c κs. search needs)
-    -- returns-3
-    (λ c. let h = le-ltb _ _ (c .before .before .before .if1 .left) in let k = eq-eqb _ _ (c .before .before .if2 .left) in let l = ne-eqb _ _ (c .before .if3 .taken) in (simp (c .refused3 .ensures, h, k, l), simp (h, k, l)))
-    (λ c κs. search needs)
-    (λ c κs. search needs)
-    -- returns-4
-    (λ c. let a = c .before .before .before .before .before .before .before .before .before .args .a .now in let b = c .before .before .before .before .before .before .before .before .before .args .b .now in let h = le-ltb _ _ (c .before .before .before .before .before .if1 .left) in let k = eq-eqb _ _ (c .before .before .before .before .if2 .left) in let l = eq-eqb _ _ (c .before .before .before .if3 .left) in let bad : divides b a ≡ false = sym (c .before .before .all-cells .ensures ∙ all-divides 65535 b a (sym (c .before .before .before .before .if2 .left))) ∙ not-true _ (c .before .if4 .taken) in (simp (c .refused4 .ensures, h, k, l, bad), simp (h, k, l, bad)))
-    (λ c κs. search needs)
     (λ c. search needs)
-    -- returns-5
-    (λ c. let a = c .before .before .before .before .before .before .before .before .before .before .before .before .args .a .now in let b = c .before .before .before .before .before .before .before .before .before .before .before .before .args .b .now in let h = le-ltb _ _ (c .before .before .before .before .before .before .before .before .if1 .left) in let k = eq-eqb _ _ (c .before .before .before .before .before .before .before .if2 .left) in let l = eq-eqb _ _ (c .before .before .before .before .before .before .if3 .left) in let ok : divides b a ≡ true = sym (c .before .before .before .before .before .all-cells .ensures ∙ all-divides 65535 b a (sym (c .before .before .before .before .before .before .before .if2 .left))) ∙ not-false _ (c .before .before .before .before .if4 .left) in (simp (h, k, l, ok), simp (h, k, l, ok) (c .before .before .write-cells .ensures ∙ zip-quotient a b (c .before .before .before .before .before .before .before .if2 .left)))))
+    -- returns
+    (λ c.
+    let p2 = c .before .before in
+    let p7 = p2 .before .before .before .before .before in
+    let a = p7 .args .a .now in
+    let b = p7 .args .b .now in
+    let out = p7 .args .out .now in
+    let same = tested-passed (writeChecks maxWidth a b out) (allCells (passesOf maxExponent AtLeast) a b) (divides b a) Division (zipCells (combinedOf Difference) a b) (quotient a b) out (λ h. all-divisor maxExponent a b (write-width maxWidth a b out h)) (λ h d. zip-quotient a b (write-width maxWidth a b out h)) in
+    (p2 .write-if .ensures .0 ∙ same .0, p2 .write-if .ensures .1 ∙ same .1)))

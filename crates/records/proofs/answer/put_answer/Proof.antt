@@ -1,6 +1,6 @@
 -- `put_answer` meets its contract, run by run. Rests on `answer-sets`.
 use native.Mathlib.Omega.{arith}
-use mathlib.Core.Path.{_≡_, refl, _∙_}
+use mathlib.Core.Path.{_∙_}
 use lib.ListN.{length-set}
 use Rattle.laws.proofs.Writing.{answer-sets}
 use borrow.Author.Needs.{needs}

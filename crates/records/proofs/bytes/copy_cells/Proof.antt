@@ -1,8 +1,8 @@
 -- `copy_cells` meets its contract: the first i cells are exponents of the record. Rests on `written-next` and `cellsIn-at`.
 use native.Mathlib.Omega.{arith}
-use mathlib.Core.Path.{_≡_, refl, sym, ap, _∙_}
+use mathlib.Core.Path.{_≡_, refl, sym, _∙_}
 use mathlib.Core.List.{_++_}
-use Prim.Native.Nat.{ℕ, _+_, _*_, _-_, _≤_}
+use Prim.Native.Nat.{_-_, _≤_}
 use lib.ListN.{length, take, drop, length-set, length-drop}
 use lib.Seq.{take-all}
 use Rattle.laws.specs.Record.{exponentsIn}

@@ -1,5 +1,5 @@
 -- `field_of` meets its contract. Rests on `value-field`.
-use mathlib.Core.Path.{_≡_, sym, _∙_}
+use mathlib.Core.Path.{sym}
 use Rattle.laws.proofs.Reading.{value-field}
 use borrow.Author.Needs.{needs}
 use Rattle.records.proofs.bytes.field_of.Statement.{statement}

@@ -1,7 +1,7 @@
 -- `put_cells` meets its contract: the bytes of the first i exponents are written. Rests on `sets-append` and `monomialBytes-next`.
 use native.Mathlib.Omega.{arith}
-use mathlib.Core.Path.{_≡_, refl, sym, ap, _∙_}
-use Prim.Native.Nat.{ℕ, _+_, _*_, _-_, _≤_}
+use mathlib.Core.Path.{_≡_, refl, sym, _∙_}
+use Prim.Native.Nat.{_+_, _*_, _-_, _≤_}
 use lib.ListN.{length, take, getD, length-take}
 use lib.Seq.{sets, take-all}
 use Rattle.laws.specs.Record.{bigEndian, monomialBytes}

@@ -1,12 +1,12 @@
 -- `choose` meets its contract: the first m places are those of the minimal monomials from i on. Rests on `chosen-more` and `chosen-same`.
 use native.Mathlib.Omega.{arith}
-use mathlib.Core.Path.{_≡_, refl, sym, ap, _∙_}
+use mathlib.Core.Path.{_≡_, refl, sym, _∙_}
 use Prim.Native.Nat.{_+_, _-_, _≤_}
 use lib.ListN.{length, take, drop}
 use Rattle.laws.specs.Ideal.{listed}
 use Rattle.laws.specs.Count.{keep}
-use Rattle.laws.specs.Minimal.{minimalIn, insert, falling}
-use Rattle.records.specs.Rows.{row, rowsAt, Below}
+use Rattle.laws.specs.Minimal.{minimalIn, falling}
+use Rattle.records.specs.Rows.{rowsAt, Below}
 use Rattle.records.proofs.Cells.{listed-end}
 use Rattle.records.proofs.Choosing.{chosen-more, chosen-same}
 use borrow.Author.Needs.{needs}

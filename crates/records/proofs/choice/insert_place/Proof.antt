@@ -1,6 +1,6 @@
 -- `insert_place` meets its contract: what stood from place q on is one place further. Rests on `shift-next` and `shift-end`.
 use native.Mathlib.Omega.{arith}
-use mathlib.Core.Path.{_≡_, refl, sym, _∙_}
+use mathlib.Core.Path.{_≡_, refl, sym}
 use mathlib.Core.List.{_++_, append-nil}
 use Prim.Native.Nat.{_+_, _≤_}
 use lib.ListN.{length, take, drop, length-set, length-take, drop-of-length-le}

@@ -1,6 +1,6 @@
 -- `insert_row` meets its contract: the monomial is there, or its place is put at its seat. Rests on `insert-there` and `inserted`.
 use native.Mathlib.Omega.{arith}
-use mathlib.Core.Path.{_≡_, refl, sym, ap, _∙_}
+use mathlib.Core.Path.{sym, _∙_}
 use Prim.Native.Nat.{_+_}
 use lib.ListN.{take}
 use Rattle.records.specs.Rows.{row, rowsAt}

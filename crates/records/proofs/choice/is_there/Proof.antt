@@ -1,7 +1,5 @@
 -- `is_there` meets its contract: there is no such place, or the comparison decides.
-use native.Mathlib.Omega.{arith}
-use mathlib.Core.Path.{_≡_, refl, sym, ap, _∙_}
-use lib.ListN.{getD, take}
+use lib.ListN.{getD}
 use Rattle.laws.specs.Order.{degrevlex}
 use Rattle.monomials.specs.declared.monomial.Order.the-variants.{Less, Equal, Greater}
 use Rattle.records.specs.Rows.{row}

@@ -1,7 +1,7 @@
 -- `seat` meets its contract: the first p places are passed.
 use native.Mathlib.Omega.{arith}
-use mathlib.Core.Path.{_≡_, refl, sym, ap, _∙_}
-use Prim.Native.Nat.{_+_, _-_, _≤_, _<_}
+use mathlib.Core.Path.{_≡_, sym, _∙_}
+use Prim.Native.Nat.{_+_, _-_, _≤_}
 use lib.ListN.{getD, drop, take}
 use borrow.Author.Tests.{not-true, not-false}
 use Rattle.laws.specs.Order.{degrevlex}

@@ -1,6 +1,6 @@
 -- `copy_record` meets its contract, return by return.
 use native.Mathlib.Omega.{arith}
-use mathlib.Core.Path.{_≡_, refl, sym, ap, _∙_}
+use mathlib.Core.Path.{sym, _∙_}
 use borrow.Author.Tests.{not-true, not-false}
 use Rattle.laws.proofs.Reading.{bytes-by, record-tests}
 use Rattle.monomials.specs.declared.refusal.Refusal.the-variants.{Record, Output}

@@ -1,6 +1,6 @@
 -- `header_stands` meets its contract, test by test.
 use native.Mathlib.Omega.{arith}
-use mathlib.Core.Path.{_≡_, refl, sym, ap, _∙_}
+use mathlib.Core.Path.{sym, _∙_}
 use borrow.Author.Tests.{eq-eqb, ne-eqb, le-leb, lt-leb}
 use Rattle.records.proofs.Cells.{area}
 use Rattle.records.proofs.Standing.{header-short}

@@ -1,6 +1,6 @@
 -- `is_record` meets its contract: the header stands, and so does the list in the cells. Rests on `record-stands`.
 use native.Mathlib.Omega.{arith}
-use mathlib.Core.Path.{_≡_, refl, sym, ap, _∙_}
+use mathlib.Core.Path.{sym, _∙_}
 use Prim.Native.Nat.{_*_}
 use lib.ListN.{drop, replicate}
 use borrow.Author.Tests.{not-true, not-false}

@@ -1,6 +1,6 @@
 -- `place` meets its contract, return by return. Rests on `part-end`.
 use native.Mathlib.Omega.{arith}
-use mathlib.Core.Path.{_≡_, refl, sym, ap, _∙_}
+use mathlib.Core.Path.{sym, ap, _∙_}
 use mathlib.Core.Option.{none, some}
 use Prim.Native.Nat.{ℕ, _*_}
 use lib.ListN.{getD}

@@ -1,6 +1,6 @@
 -- `put_header` meets its contract: seven stores.
 use native.Mathlib.Omega.{arith}
-use mathlib.Core.Path.{_≡_, refl, _∙_}
+use mathlib.Core.Path.{_∙_}
 use lib.ListN.{length-set}
 use Rattle.records.proofs.Cells.{area}
 use borrow.Author.Needs.{needs}

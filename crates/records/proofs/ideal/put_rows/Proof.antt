@@ -1,6 +1,6 @@
 -- `put_rows` meets its contract: the exponents of the first k monomials are written.
 use native.Mathlib.Omega.{arith}
-use mathlib.Core.Path.{_≡_, refl, sym, ap, _∙_}
+use mathlib.Core.Path.{_≡_, refl, ap, _∙_}
 use Prim.Native.Nat.{_+_, _*_, _-_, _≤_}
 use native.Mathlib.Nat.{zero-mul}
 use lib.ListN.{length, getD, take}

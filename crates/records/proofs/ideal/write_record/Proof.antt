@@ -1,6 +1,6 @@
 -- `write_record` meets its contract, return by return. Rests on `record-out`.
 use native.Mathlib.Omega.{arith}
-use mathlib.Core.Path.{_≡_, refl, sym, ap, _∙_}
+use mathlib.Core.Path.{_∙_}
 use Prim.Native.Nat.{_+_, _*_}
 use Rattle.monomials.specs.declared.refusal.Refusal.the-variants.{Width, Count, Cells, Output}
 use Rattle.records.proofs.Cells.{area}

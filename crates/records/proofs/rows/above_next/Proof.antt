@@ -1,6 +1,4 @@
 -- `above_next` meets its contract: there is no next monomial, or the comparison with it decides.
-use native.Mathlib.Omega.{arith}
-use mathlib.Core.Path.{_≡_, refl, sym, ap, _∙_}
 use Prim.Native.Nat.{_+_}
 use Rattle.laws.specs.Order.{degrevlex}
 use Rattle.monomials.specs.declared.monomial.Order.the-variants.{Less, Equal, Greater}

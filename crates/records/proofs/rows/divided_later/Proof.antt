@@ -1,6 +1,6 @@
 -- `divided_later` meets its contract: none from i + 1 up to j divides.
 use native.Mathlib.Omega.{arith}
-use mathlib.Core.Path.{_≡_, refl, sym, ap, _∙_}
+use mathlib.Core.Path.{_≡_, refl, _∙_}
 use Prim.Native.Nat.{_+_, _-_, _≤_, _<_}
 use lib.ListN.{drop}
 use Rattle.laws.specs.Ideal.{listed, multiple}

@@ -1,7 +1,7 @@
 -- `is_minimal` meets its contract: none up to j is a proper divisor.
 use native.Mathlib.Omega.{arith}
-use mathlib.Core.Path.{_≡_, refl, sym, ap, _∙_}
-use Prim.Native.Nat.{_+_, _-_, _≤_, _<_}
+use mathlib.Core.Path.{_≡_, refl, sym, _∙_}
+use Prim.Native.Nat.{_-_, _≤_}
 use lib.ListN.{drop}
 use Rattle.laws.specs.Ideal.{listed}
 use Rattle.laws.specs.Minimal.{minimalIn}

@@ -1,5 +1,4 @@
 -- `properly_divides` meets its contract, return by return.
-use mathlib.Core.Path.{_≡_, refl}
 use borrow.Author.Needs.{needs}
 use Rattle.records.proofs.rows.properly_divides.Statement.{statement}
 use Rattle.records.proofs.rows.properly_divides.Tie as tie

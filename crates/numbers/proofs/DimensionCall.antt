@@ -1,0 +1,270 @@
+-- The outcomes of `quotient_dimension` and of its steps: which check decides, and that the equations of the contracts then hold.
+--   Left n L room p q sums r a b d e   == the answer r, and a, b, d, e in the exponent room, the two coefficient rooms and the sum room, are what
+--                                         the checks of the rooms leave
+--   Outcome r a b d e                  == they are what the call's contract says
+-- Assumes nothing.
+use mathlib.Core.Path.{_≡_, refl, sym, ap, _∙_}
+use mathlib.Core.Logic.{_≢_}
+use mathlib.Core.Bool.{Bool, true, false, not, _||_, false≢true}
+use mathlib.Core.List.{List, [], _∷_, _++_, append-nil}
+use mathlib.Core.Option.{Option, none, some}
+use Prim.Native.Nat.{ℕ, zero, suc, _+_, _*_, _^_, _≤_, _<_}
+use native.Mathlib.Nat.{le-trans}
+use native.Mathlib.Omega.{arith}
+use lib.Dec.{leb, ltb, lit≤}
+use lib.IntN.{ℤ, pos}
+use lib.ListN.{length, replicate, drop, getD}
+use borrow.Author.Tests.{lt-ltb, le-ltb, eq-eqb, ne-eqb, ltb-false, leb-false, le-leb, lt-leb}
+use Rattle.laws.specs.Ideal.{listed, Within, unitIn}
+use Rattle.laws.specs.Coefficients.{coefficient}
+use Rattle.laws.specs.Count.{HF}
+use Rattle.laws.specs.Numerator.{numerator}
+use Rattle.laws.specs.Sums.{sumBelow, sumsℤ}
+use Rattle.laws.specs.Word.{residue}
+use Rattle.laws.specs.Dimension.{finite, degreeBound, powersProduct, dimension, topDegree}
+use Rattle.laws.specs.Room.{cellsAsked, coefficientsAsked, dimensionWords}
+use Rattle.laws.proofs.Ideal.{listed-width}
+use Rattle.laws.proofs.Coefficients.{coefficient-padded}
+use Rattle.laws.proofs.Sums.{sums-ext}
+use Rattle.laws.proofs.Asked.{sumBelow-ext}
+use Rattle.laws.proofs.Dimension.{finite-power, dimension-unit, dimension-no-variables, hf-residue, dimension-below}
+use Rattle.monomials.specs.Refusal.{Check, refusal, after}
+use Rattle.monomials.specs.declared.refusal.Refusal.{Refusal}
+use Rattle.monomials.specs.declared.refusal.Refusal.the-variants.{Width, Count, Cells as CellsOut, CellRoom, CoefficientRoom, SumRoom, Dimension, Value}
+use Rattle.numbers.specs.Wide.{wide, productAnswer}
+use Rattle.numbers.specs.HilbertParts.{numberAt}
+use Rattle.numbers.specs.Numerator.{wiped}
+use Rattle.numbers.specs.Dimension.{dimensionIs, atOnce, noDimension, boundChecks, roomChecks, dimensionChecks, dimensionAnswer, dimensionRoom, dimensionFirst, dimensionSecond, dimensionSums}
+use Rattle.numbers.specs.DimensionParts.{Bounded, Powers, boundAnswer, checkedIs}
+use Rattle.numbers.specs.declared.wide.Wide.{Wide}
+use Rattle.numbers.specs.declared.wide.Product.{Product}
+use Rattle.numbers.specs.declared.wide.Product.the-variants.{Exact, Passed}
+use Rattle.numbers.specs.declared.powers.Bound.{Bound}
+use Rattle.numbers.specs.declared.powers.Bound.the-variants.{At, None}
+use Rattle.numbers.specs.declared.dimension.Checked.{Checked}
+use Rattle.numbers.specs.declared.dimension.DimensionOutcome.{DimensionOutcome}
+use Rattle.numbers.specs.declared.dimension.DimensionAnswer.{DimensionAnswer}
+use Rattle.numbers.proofs.LeastPowers.{product-exact, product-passed}
+
+-- the checks 13 and 11
+
+or-none : (a b : Bool) → (not a || b) ≡ false → (a ≡ true) × (b ≡ false)
+or-none true b e = (refl, e)
+or-none false b e = absurd (false≢true (sym e))
+
+module _ (M n : ℕ) (L : List (List ℕ)) where
+  -- a list that passes 13
+  pub has-dimension : noDimension M n L ≡ false → (finite n L ≡ true) × (degreeBound n L ≤ M)
+  has-dimension e =
+      let (f, l) = or-none (finite n L) (ltb M (degreeBound n L)) e in
+      (f, ltb-false M (degreeBound n L) l)
+
+  -- what the degree bound's answer says
+  module _ (b : Bound) (e : b ≡ boundAnswer M n L) where
+    pub bound-none : b ≡ None → noDimension M n L ≡ true
+    bound-none g = go (noDimension M n L) refl
+      where
+        go : (t : Bool) → noDimension M n L ≡ t → t ≡ true
+        go true h = refl
+        go false h = let z : _≡_ {A = ℕ} 0 1 = cc (rw h at e) in absurd (omega arith)
+
+    pub bound-at : (d : ℕ) → b ≡ At d → (noDimension M n L ≡ false) × (d ≡ degreeBound n L)
+    bound-at d g = go (noDimension M n L) refl
+      where
+        go : (t : Bool) → noDimension M n L ≡ t → (t ≡ false) × (d ≡ degreeBound n L)
+        go true h = let z : _≡_ {A = ℕ} 0 1 = cc (rw h at e) in absurd (omega arith)
+        go false h = (refl, cc (rw h at e))
+
+    pub checked-none : b ≡ None → Checked.Refused Dimension ≡ checkedIs (refusal (boundChecks M n L)) (degreeBound n L)
+    checked-none g = rw (bound-none g)
+
+    -- and that of the product
+    module _ (d : ℕ) (g : b ≡ At d) (p : Product) (f : p ≡ productAnswer (powersProduct n L)) where
+      pub checked-passed : p ≡ Passed → Checked.Refused Value ≡ checkedIs (refusal (boundChecks M n L)) (degreeBound n L)
+      checked-passed h =
+          rw (bound-at d g .0, le-leb (2 ^ 127) (powersProduct n L) (product-passed (powersProduct n L) (sym f ∙ h)))
+
+      pub checked-exact : (w : Wide) → p ≡ Exact w → Checked.Bound d ≡ checkedIs (refusal (boundChecks M n L)) (degreeBound n L)
+      checked-exact w h =
+          rw (bound-at d g .0, lt-leb (2 ^ 127) (powersProduct n L) (product-exact (powersProduct n L) w (sym f ∙ h) .0)) (ap Checked.Bound (bound-at d g .1))
+
+  -- each variable has a power
+  pub powers-there : (powers : List ℕ) → Powers n L powers → noDimension M n L ≡ false → (v : ℕ) → v < n → getD powers v 0 ≢ 0
+  powers-there powers p e v h z = finite-power n L v (has-dimension e .0) h (sym (p v h) ∙ z)
+
+  -- a list that passes both
+  pub bounded : (d : ℕ) → unitIn L ≡ false → M ≤ 65536 → refusal (boundChecks M n L) ≡ none → d ≡ degreeBound n L → Bounded n L d
+  bounded d u m e k = go (noDimension M n L) (leb (2 ^ 127) (powersProduct n L)) refl refl
+    where
+      go : (s t : Bool) → noDimension M n L ≡ s → leb (2 ^ 127) (powersProduct n L) ≡ t → Bounded n L d
+      go true t h g = let z : _≡_ {A = ℕ} 0 1 = cc (rw h at e) in absurd (omega arith)
+      go false true h g = let z : _≡_ {A = ℕ} 0 1 = cc (rw (h, g) at e) in absurd (omega arith)
+      go false false h g =
+          let (f, l) = has-dimension h in
+          record { plain = u; powers = f; bound = k; small = rw k (le-trans l m); product = leb-false (2 ^ 127) (powersProduct n L) g }
+
+-- a bound or a refusal, read back
+
+pub checked-bound : (o : Option Refusal) (b d : ℕ) → checkedIs o b ≡ Checked.Bound d → (o ≡ none) × (d ≡ b)
+checked-bound none b d e = (refl, cc)
+checked-bound (some r) b d e = let z : _≡_ {A = ℕ} 0 1 = cc in absurd (omega arith)
+
+pub checked-refused : (o : Option Refusal) (b : ℕ) (r : Refusal) → checkedIs o b ≡ Checked.Refused r → o ≡ some r
+checked-refused none b r e = let z : _≡_ {A = ℕ} 0 1 = cc in absurd (omega arith)
+checked-refused (some x) b r e = ap some (cc)
+
+-- counting
+
+module _ (n d : ℕ) (L : List (List ℕ)) (b : Bounded n L d) where
+  -- the sums modulo 2^128 are the Hilbert function
+  pub values : Within n L → (p : List ℤ) (j : ℕ) → p ≡ numerator L ++ replicate j (pos 0) → (k : ℕ) → k < d + 1 → residue (2 ^ 128) (sumsℤ n (coefficient p) k) ≡ HF L n k
+  values w p j e k h =
+      ap (residue (2 ^ 128)) (sums-ext n (coefficient p) (coefficient (numerator L)) (λ i. ap (λ (l : List ℤ). coefficient l i) e ∙ coefficient-padded (numerator L) j i) k)
+      ∙ hf-residue n L (b .powers) (2 ^ 128) (le-trans (b .product) (lit≤ tt)) k w (omega (arith, b .bound))
+
+  -- and their total is the dimension
+  pub counted : (words : List ℕ) (r : Wide) → ((k : ℕ) → k < d + 1 → numberAt words k ≡ HF L n k) → r ≡ wide (sumBelow (d + 1) (numberAt words)) → r ≡ wide (dimension n L)
+  counted words r h e =
+      e ∙ ap wide (sumBelow-ext (d + 1) (numberAt words) (HF L n) h ∙ ap (λ (k : ℕ). sumBelow (k + 1) (HF L n)) (b .bound) ∙ dimension-below n L)
+
+-- the rooms' checks
+
+module _ (n : ℕ) (L : List (List ℕ)) (room : List ℕ) (p q : List ℤ) (sums : List ℕ) where
+  abbrev pub Left : DimensionAnswer → List ℕ → List ℤ → List ℤ → List ℕ → Type 0
+  Left r a b d e =
+      (r ≡ dimensionIs (refusal (roomChecks n L room p q sums)) n L)
+      × ((a ≡ after (refusal (roomChecks n L room p q sums)) (wiped 0 (cellsAsked n L) room) room)
+      × ((b ≡ after (refusal (roomChecks n L room p q sums)) (wiped (pos 0) (coefficientsAsked L) p) p)
+      × ((d ≡ after (refusal (roomChecks n L room p q sums)) (wiped (pos 0) (coefficientsAsked L) q) q)
+      × (e ≡ after (refusal (roomChecks n L room p q sums)) (wiped 0 (dimensionWords (degreeBound n L)) sums) sums))))
+
+  stops : (x : Refusal) (r : DimensionAnswer) → refusal (roomChecks n L room p q sums) ≡ some x → r ≡ record { outcome = DimensionOutcome.Refused x } → Left r room p q sums
+  stops x r e h = (rw e h, (rw e, (rw e, (rw e, rw e))))
+
+  module _ (c k d : ℕ) (ec : c ≡ cellsAsked n (L ++ [])) (ek : k ≡ coefficientsAsked (L ++ [])) (ed : d ≡ degreeBound n L) where
+    pub room-size : c ≡ cellsAsked n L
+    room-size = ec ∙ ap (cellsAsked n) (append-nil L)
+
+    pub list-size : k ≡ coefficientsAsked L
+    list-size = ek ∙ ap coefficientsAsked (append-nil L)
+
+    pub sums-size : dimensionWords d ≡ dimensionWords (degreeBound n L)
+    sums-size = ap dimensionWords ed
+
+    pub stops-room : (r : DimensionAnswer) → length room < c → r ≡ record { outcome = DimensionOutcome.Refused CellRoom } → Left r room p q sums
+    stops-room r l e = stops CellRoom r (rw (lt-ltb (length room) (cellsAsked n L) (rw room-size at l))) e
+
+    module _ (l : c ≤ length room) where
+      pub stops-first : (r : DimensionAnswer) → length p < k → r ≡ record { outcome = DimensionOutcome.Refused CoefficientRoom } → Left r room p q sums
+      stops-first r a e =
+          stops CoefficientRoom r
+          (rw (le-ltb (length room) (cellsAsked n L) (rw room-size at l), lt-ltb (length p) (coefficientsAsked L) (rw list-size at a))) e
+
+      module _ (a : k ≤ length p) where
+        pub stops-second : (r : DimensionAnswer) → length q < k → r ≡ record { outcome = DimensionOutcome.Refused CoefficientRoom } → Left r room p q sums
+        stops-second r b e =
+            stops CoefficientRoom r
+            (rw (le-ltb (length room) (cellsAsked n L) (rw room-size at l), le-ltb (length p) (coefficientsAsked L) (rw list-size at a), lt-ltb (length q) (coefficientsAsked L) (rw list-size at b))) e
+
+        module _ (b : k ≤ length q) where
+          pub stops-sums : (r : DimensionAnswer) → length sums < dimensionWords d → r ≡ record { outcome = DimensionOutcome.Refused SumRoom } → Left r room p q sums
+          stops-sums r h e =
+              stops SumRoom r
+              (rw (le-ltb (length room) (cellsAsked n L) (rw room-size at l), le-ltb (length p) (coefficientsAsked L) (rw list-size at a), le-ltb (length q) (coefficientsAsked L) (rw list-size at b), lt-ltb (length sums) (dimensionWords (degreeBound n L)) (rw sums-size at h))) e
+
+          passes : dimensionWords d ≤ length sums → refusal (roomChecks n L room p q sums) ≡ none
+          passes h =
+              rw (le-ltb (length room) (cellsAsked n L) (rw room-size at l), le-ltb (length p) (coefficientsAsked L) (rw list-size at a), le-ltb (length q) (coefficientsAsked L) (rw list-size at b), le-ltb (length sums) (dimensionWords (degreeBound n L)) (rw sums-size at h))
+
+          pub gives : unitIn L ≡ false → dimensionWords d ≤ length sums → (r : DimensionAnswer) (x : Wide) (A : List ℕ) (B D : List ℤ) (E : List ℕ)
+              → r ≡ record { outcome = DimensionOutcome.Value (record { dimension = x; top = d }) } → x ≡ wide (dimension n L)
+              → A ≡ replicate c 0 → B ≡ replicate k (pos 0) → D ≡ replicate k (pos 0) → E ≡ replicate (dimensionWords d) 0
+              → Left r (A ++ drop c room) (B ++ drop k p) (D ++ drop k q) (E ++ drop (dimensionWords d) sums)
+          gives u h r x A B D E e v eA eB eD eE =
+              let o = passes h in (
+                rw (o, u) (e ∙ rw (v, ed)),
+                (
+                  rw o (ap (λ (y : List ℕ). y ++ drop c room) eA ∙ ap (λ (y : ℕ). wiped 0 y room) room-size),
+                  (
+                    rw o (ap (λ (y : List ℤ). y ++ drop k p) eB ∙ ap (λ (y : ℕ). wiped (pos 0) y p) list-size),
+                    (
+                      rw o (ap (λ (y : List ℤ). y ++ drop k q) eD ∙ ap (λ (y : ℕ). wiped (pos 0) y q) list-size),
+                      rw o (ap (λ (y : List ℕ). y ++ drop (dimensionWords d) sums) eE ∙ ap (λ (y : ℕ). wiped 0 y sums) sums-size),
+                    ),
+                  ),
+                ),
+              )
+
+-- the whole call
+
+-- the first checks decide, or the others
+refusal-first : (xs ys : List Check) (r : Refusal) → refusal xs ≡ some r → refusal (xs ++ ys) ≡ some r
+refusal-first [] ys r e = let z : _≡_ {A = ℕ} 0 1 = cc in absurd (omega arith)
+refusal-first (x ∷ xs) ys r e = go (x .0) refl (refusal-first xs ys r)
+  where
+    go : (t : Bool) → x .0 ≡ t → (refusal xs ≡ some r → refusal (xs ++ ys) ≡ some r) → refusal ((x ∷ xs) ++ ys) ≡ some r
+    go true h f = rw h (rw h at e)
+    go false h f = rw h (f (rw h at e))
+
+refusal-then : (xs ys : List Check) → refusal xs ≡ none → refusal (xs ++ ys) ≡ refusal ys
+refusal-then [] ys e = refl
+refusal-then (x ∷ xs) ys e = go (x .0) refl (refusal-then xs ys)
+  where
+    go : (t : Bool) → x .0 ≡ t → (refusal xs ≡ none → refusal (xs ++ ys) ≡ refusal ys) → refusal ((x ∷ xs) ++ ys) ≡ refusal ys
+    go true h f = let z : _≡_ {A = ℕ} 0 1 = cc (rw h at e) in absurd (omega arith)
+    go false h f = rw h (f (rw h at e))
+
+-- without variables
+no-variables : (n s : ℕ) (cells : List ℕ) → n ≡ 0 → unitIn (listed n s cells) ≡ false → length cells ≡ s * n → (dimension n (listed n s cells) ≡ 1) × (topDegree n (listed n s cells) ≡ 0)
+no-variables zero s cells z u f = (dimension-no-variables (listed 0 s cells) u (listed-width 0 s cells (omega arith)), rw u)
+no-variables (suc n) s cells z u f = absurd (omega arith)
+
+module _ (W C M n s : ℕ) (cells room : List ℕ) (p q : List ℤ) (sums : List ℕ) where
+  abbrev pub Outcome : DimensionAnswer → List ℕ → List ℤ → List ℤ → List ℕ → Type 0
+  Outcome r a b d e =
+      (r ≡ dimensionAnswer W C M n s cells room p q sums)
+      × ((a ≡ dimensionRoom W C M n s cells room p q sums)
+      × ((b ≡ dimensionFirst W C M n s cells room p q sums)
+      × ((d ≡ dimensionSecond W C M n s cells room p q sums)
+      × (e ≡ dimensionSums W C M n s cells room p q sums))))
+
+  refuses : (x : Refusal) (r : DimensionAnswer) → refusal (dimensionChecks W C M n s cells room p q sums) ≡ some x → r ≡ record { outcome = DimensionOutcome.Refused x } → Outcome r room p q sums
+  refuses x r e h = (rw e h, (rw e, (rw e, (rw e, rw e))))
+
+  pub refuses-width : (r : DimensionAnswer) → W < n → r ≡ record { outcome = DimensionOutcome.Refused Width } → Outcome r room p q sums
+  refuses-width r h e = refuses Width r (rw (lt-ltb W n h)) e
+
+  pub refuses-count : (r : DimensionAnswer) → n ≤ W → C < s → r ≡ record { outcome = DimensionOutcome.Refused Count } → Outcome r room p q sums
+  refuses-count r h g e = refuses Count r (rw (le-ltb W n h, lt-ltb C s g)) e
+
+  pub refuses-cells : (r : DimensionAnswer) → n ≤ W → s ≤ C → (length cells ≡ s * n → ⊥) → r ≡ record { outcome = DimensionOutcome.Refused CellsOut } → Outcome r room p q sums
+  refuses-cells r h g f e = refuses CellsOut r (rw (le-ltb W n h, le-ltb C s g, ne-eqb (length cells) (s * n) f)) e
+
+  module _ (h : n ≤ W) (g : s ≤ C) (f : length cells ≡ s * n) where
+    module _ (once : atOnce n (listed n s cells) ≡ true) where
+      answers : refusal (dimensionChecks W C M n s cells room p q sums) ≡ none
+      answers = rw (le-ltb W n h, le-ltb C s g, eq-eqb (length cells) (s * n) f, once)
+
+      at-once : (r : DimensionAnswer) → r ≡ record { outcome = DimensionOutcome.Value (record { dimension = wide (dimension n (listed n s cells)); top = topDegree n (listed n s cells) }) }
+          → Outcome r room p q sums
+      at-once r e = (rw answers e, (rw (answers, once), (rw (answers, once), (rw (answers, once), rw (answers, once)))))
+
+    pub gives-unit : (r : DimensionAnswer) → unitIn (listed n s cells) ≡ true → r ≡ record { outcome = DimensionOutcome.Value (record { dimension = wide 0; top = 0 }) } → Outcome r room p q sums
+    gives-unit r u e = at-once (rw u) r (rw (dimension-unit n (listed n s cells) u, u) e)
+
+    pub gives-one : (r : DimensionAnswer) → unitIn (listed n s cells) ≡ false → n ≡ 0 → r ≡ record { outcome = DimensionOutcome.Value (record { dimension = wide 1; top = 0 }) } → Outcome r room p q sums
+    gives-one r u z e = let (a, b) = no-variables n s cells z u f in at-once (rw u (eq-eqb n 0 z)) r (rw (a, b) e)
+
+    module _ (u : unitIn (listed n s cells) ≡ false) (z : n ≢ 0) where
+      goes-on : refusal (dimensionChecks W C M n s cells room p q sums) ≡ refusal (boundChecks M n (listed n s cells) ++ roomChecks n (listed n s cells) room p q sums)
+      goes-on = rw (le-ltb W n h, le-ltb C s g, eq-eqb (length cells) (s * n) f, u, ne-eqb n 0 z)
+
+      pub refuses-bound : (x : Refusal) (r : DimensionAnswer) → refusal (boundChecks M n (listed n s cells)) ≡ some x → r ≡ record { outcome = DimensionOutcome.Refused x } → Outcome r room p q sums
+      refuses-bound x r e =
+          refuses x r (goes-on ∙ refusal-first (boundChecks M n (listed n s cells)) (roomChecks n (listed n s cells) room p q sums) x e)
+
+      pub leaves : (r : DimensionAnswer) (a : List ℕ) (b d : List ℤ) (e : List ℕ) → refusal (boundChecks M n (listed n s cells)) ≡ none → Left n (listed n s cells) room p q sums r a b d e → Outcome r a b d e
+      leaves r a b d e i l =
+          let o : refusal (dimensionChecks W C M n s cells room p q sums) ≡ refusal (roomChecks n (listed n s cells) room p q sums) = goes-on ∙ refusal-then (boundChecks M n (listed n s cells)) (roomChecks n (listed n s cells) room p q sums) i in
+          let m : atOnce n (listed n s cells) ≡ false = rw u (ne-eqb n 0 z) in
+          (rw o (l .0), (rw (o, m) (l .1 .0), (rw (o, m) (l .1 .1 .0), (rw (o, m) (l .1 .1 .1 .0), rw (o, m) (l .1 .1 .1 .1)))))

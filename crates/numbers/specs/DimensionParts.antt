@@ -1,0 +1,60 @@
+-- What the private steps of `quotient_dimension` promise to one another; no public contract cites it.
+--   Cells n s cells      == the cells are those of s monomials in n variables, few enough for the numerator
+--   Powers n L powers    == the first n cells hold the least power of each variable in L
+--   boundAnswer M n L    == D, where each of the n variables has a pure power in L and D is at most M
+--   BoundOf M n powers r == r is that answer for any list with these powers
+--   checkedIs r d        == the refusal, or else d
+--   roomRefusal n s cells room p q sums == the refusal for want of room, if any
+--   Bounded n L d        == L has a dimension below 2^127, and D is d
+--   Lent n L d room p q sums == the rooms have the sizes asked
+-- Assumes nothing.
+use mathlib.Core.Path.{_≡_}
+use mathlib.Core.Bool.{true, false, cond}
+use mathlib.Core.List.{List}
+use mathlib.Core.Option.{Option, none, some}
+use Prim.Native.Nat.{ℕ, _*_, _^_, _<_, _≤_}
+use lib.IntN.{ℤ}
+use lib.ListN.{length, getD}
+use Rattle.laws.specs.Ideal.{listed, unitIn}
+use Rattle.laws.specs.Dimension.{leastPower, finite, degreeBound, powersProduct}
+use Rattle.laws.specs.Room.{cellsAsked, coefficientsAsked, dimensionWords}
+use Rattle.monomials.specs.Refusal.{refusal}
+use Rattle.monomials.specs.declared.refusal.Refusal.{Refusal}
+use Rattle.numbers.specs.Dimension.{noDimension, roomChecks}
+use Rattle.numbers.specs.declared.powers.Bound.{Bound}
+use Rattle.numbers.specs.declared.powers.Bound.the-variants.{At, None}
+use Rattle.numbers.specs.declared.dimension.Checked.{Checked}
+
+pub record Cells (n s : ℕ) (cells : List ℕ) : Type 0 where
+  pub there : length cells ≡ s * n
+  pub width : n ≤ 4096
+  pub count : s ≤ 60
+
+abbrev pub boundAnswer : ℕ → ℕ → List (List ℕ) → Bound
+boundAnswer M n L = cond (noDimension M n L) None (At (degreeBound n L))
+
+abbrev pub Powers : ℕ → List (List ℕ) → List ℕ → Type 0
+Powers n L powers = (v : ℕ) → v < n → getD powers v 0 ≡ leastPower L v
+
+abbrev pub BoundOf : ℕ → ℕ → List ℕ → Bound → Type 0
+BoundOf M n powers r = (L : List (List ℕ)) → Powers n L powers → r ≡ boundAnswer M n L
+
+abbrev pub checkedIs : Option Refusal → ℕ → Checked
+checkedIs none d = Checked.Bound d
+checkedIs (some r) d = Checked.Refused r
+
+abbrev pub roomRefusal : ℕ → ℕ → List ℕ → List ℕ → List ℤ → List ℤ → List ℕ → Option Refusal
+roomRefusal n s cells room p q sums = refusal (roomChecks n (listed n s cells) room p q sums)
+
+pub record Bounded (n : ℕ) (L : List (List ℕ)) (d : ℕ) : Type 0 where
+  pub plain : unitIn L ≡ false
+  pub powers : finite n L ≡ true
+  pub bound : d ≡ degreeBound n L
+  pub small : d ≤ 65536
+  pub product : powersProduct n L < 2 ^ 127
+
+pub record Lent (n : ℕ) (L : List (List ℕ)) (d : ℕ) (room : List ℕ) (p q : List ℤ) (sums : List ℕ) : Type 0 where
+  pub cells : length room ≡ cellsAsked n L
+  pub first : length p ≡ coefficientsAsked L
+  pub second : length q ≡ coefficientsAsked L
+  pub words : length sums ≡ dimensionWords d

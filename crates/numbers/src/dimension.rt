@@ -1,0 +1,227 @@
+// The dimension of a list's quotient: how many monomials are no multiple of the list. They are counted degree by degree, from the numerator
+// by prefix sums modulo 2^128; the count is exact, because it is at most the product of the least powers, which is below 2^127.
+use crate::asked::cells_asked;
+use crate::asked::coefficients_asked;
+use crate::hf_at::MAX_DEGREE;
+use crate::hf_at::wipe;
+use crate::leaf::zero;
+use crate::numerator::numerator_in;
+use crate::powers::Bound;
+use crate::powers::degree_bound;
+use crate::powers::has_unit;
+use crate::powers::least_powers;
+use crate::powers::powers_product;
+use crate::totals::prefix_sums;
+use crate::totals::total;
+use crate::wide::Product;
+use crate::wide::Wide;
+use monomials::refusal::MAX_COUNT;
+use monomials::refusal::MAX_WIDTH;
+use monomials::refusal::Refusal;
+ghost use mathlib.Core.Path.{_≡_};
+ghost use Prim.Native.Nat.{ℕ, _+_, _<_, _≤_};
+ghost use lib.IntN.{pos};
+ghost use lib.ListN.{length, replicate};
+ghost use Rattle.laws.specs.Count.{HF};
+ghost use Rattle.laws.specs.Dimension.{degreeBound, dimension as dimensionOf};
+ghost use Rattle.laws.specs.Ideal.{listed};
+ghost use Rattle.laws.specs.Room.{cellsAsked, coefficientsAsked, dimensionWords};
+ghost use Rattle.monomials.specs.Refusal.{refusal as refusalOf, after};
+ghost use Rattle.numbers.specs.Dimension.{dimensionAnswer, dimensionRoom, dimensionFirst, dimensionSecond, dimensionSums, dimensionIs, boundChecks};
+ghost use Rattle.numbers.specs.DimensionParts.{Cells, Bounded, Lent, checkedIs, roomRefusal};
+ghost use Rattle.numbers.specs.HilbertParts.{numberAt};
+ghost use Rattle.numbers.specs.Numerator.{wiped};
+ghost use Rattle.numbers.specs.Wide.{wide};
+
+// A dimension, and the top degree beside it.
+pub struct Dimension {
+    pub dimension: Wide,
+    pub top: u64,
+}
+
+// A dimension, or why there is none.
+pub enum DimensionOutcome {
+    Value(Dimension),
+    Refused(Refusal),
+}
+
+pub struct DimensionAnswer {
+    pub outcome: DimensionOutcome,
+}
+
+// The degree bound, or a refusal.
+enum Checked {
+    Bound(usize),
+    Refused(Refusal),
+}
+
+// How many monomials in n variables are no multiple of the s monomials in `cells`. With a unit it is 0, and without variables 1: these ask no
+// room. Otherwise every room is left at zero in its asked part.
+pub fn quotient_dimension(
+    n: usize,
+    s: usize,
+    cells: &[u16],
+    room: &mut [u16],
+    first: &mut [i64],
+    second: &mut [i64],
+    sums: &mut [u64],
+) -> DimensionAnswer
+    ensures { λ r. do ⌜ r ≡ dimensionAnswer (← ⟦MAX_WIDTH⟧ .entry) (← ⟦MAX_COUNT⟧ .entry) (← ⟦MAX_DEGREE⟧ .entry) n s (now (cells .entry)) (now (room .entry)) (now (first .entry)) (now (second .entry)) (now (sums .entry)) ⌝ }
+    ensures { λ r. do ⌜ now (room .exit) ≡ dimensionRoom (← ⟦MAX_WIDTH⟧ .entry) (← ⟦MAX_COUNT⟧ .entry) (← ⟦MAX_DEGREE⟧ .entry) n s (now (cells .entry)) (now (room .entry)) (now (first .entry)) (now (second .entry)) (now (sums .entry)) ⌝ }
+    ensures { λ r. do ⌜ now (first .exit) ≡ dimensionFirst (← ⟦MAX_WIDTH⟧ .entry) (← ⟦MAX_COUNT⟧ .entry) (← ⟦MAX_DEGREE⟧ .entry) n s (now (cells .entry)) (now (room .entry)) (now (first .entry)) (now (second .entry)) (now (sums .entry)) ⌝ }
+    ensures { λ r. do ⌜ now (second .exit) ≡ dimensionSecond (← ⟦MAX_WIDTH⟧ .entry) (← ⟦MAX_COUNT⟧ .entry) (← ⟦MAX_DEGREE⟧ .entry) n s (now (cells .entry)) (now (room .entry)) (now (first .entry)) (now (second .entry)) (now (sums .entry)) ⌝ }
+    ensures { λ r. do ⌜ now (sums .exit) ≡ dimensionSums (← ⟦MAX_WIDTH⟧ .entry) (← ⟦MAX_COUNT⟧ .entry) (← ⟦MAX_DEGREE⟧ .entry) n s (now (cells .entry)) (now (room .entry)) (now (first .entry)) (now (second .entry)) (now (sums .entry)) ⌝ }
+{
+    if MAX_WIDTH < n {
+        return refused(Refusal::Width);
+    }
+    if MAX_COUNT < s {
+        return refused(Refusal::Count);
+    }
+    if cells.len() != s * n {
+        return refused(Refusal::Cells);
+    }
+    if has_unit(n, s, cells) {
+        return answered(Wide::ZERO, 0);
+    }
+    if n == 0 {
+        return answered(Wide::ONE, 0);
+    }
+    let c = checked_bound(n, s, cells);
+    match c {
+        Checked::Bound(d) => in_rooms(n, s, cells, d, room, first, second, sums),
+        Checked::Refused(r) => refused(r),
+    }
+}
+
+// The refusal as an answer.
+fn refused(refusal: Refusal) -> DimensionAnswer
+    ensures { λ r. ⌜ r ≡ record { outcome = DimensionOutcome.Refused refusal } ⌝ }
+{
+    DimensionAnswer {
+        outcome: DimensionOutcome::Refused(refusal),
+    }
+}
+
+// The dimension and the top degree as an answer.
+fn answered(dimension: Wide, top: u64) -> DimensionAnswer
+    ensures { λ r. ⌜ r ≡ record { outcome = DimensionOutcome.Value (record { dimension = dimension; top = top }) } ⌝ }
+{
+    DimensionAnswer {
+        outcome: DimensionOutcome::Value(Dimension {
+            dimension: dimension,
+            top: top,
+        }),
+    }
+}
+
+// The degree bound, unless there is no dimension or the product of the least powers reaches 2^127.
+fn checked_bound(n: usize, s: usize, cells: &[u16]) -> Checked
+    requires { ⌜ Cells n s (now cells) × (n ≤ 255) ⌝ }
+    ensures { λ r. do ⌜ r ≡ checkedIs (refusalOf (boundChecks (← ⟦MAX_DEGREE⟧ .entry) n (listed n s (now (cells .entry))))) (degreeBound n (listed n s (now (cells .entry)))) ⌝ }
+{
+    let mut powers = [0u16; MAX_WIDTH];
+    least_powers(n, s, cells, &mut powers);
+    let b = degree_bound(n, &powers);
+    let Bound::At(d) = b else {
+        return Checked::Refused(Refusal::Dimension);
+    };
+    let p = powers_product(n, &powers);
+    let Product::Exact(_) = p else {
+        return Checked::Refused(Refusal::Value);
+    };
+    Checked::Bound(d)
+}
+
+// The dimension of a list whose degree bound is d, where the rooms suffice.
+fn in_rooms(
+    n: usize,
+    s: usize,
+    cells: &[u16],
+    d: usize,
+    room: &mut [u16],
+    first: &mut [i64],
+    second: &mut [i64],
+    sums: &mut [u64],
+) -> DimensionAnswer
+    requires { ⌜ Cells n s (now cells) × Bounded n (listed n s (now cells)) d ⌝ }
+    ensures { λ r. ⌜ r ≡ dimensionIs (roomRefusal n s (now (cells .entry)) (now (room .entry)) (now (first .entry)) (now (second .entry)) (now (sums .entry))) n (listed n s (now (cells .entry))) ⌝ }
+    ensures { λ _. ⌜ now (room .exit) ≡ after (roomRefusal n s (now (cells .entry)) (now (room .entry)) (now (first .entry)) (now (second .entry)) (now (sums .entry))) (wiped 0 (cellsAsked n (listed n s (now (cells .entry)))) (now (room .entry))) (now (room .entry)) ⌝ }
+    ensures { λ _. ⌜ now (first .exit) ≡ after (roomRefusal n s (now (cells .entry)) (now (room .entry)) (now (first .entry)) (now (second .entry)) (now (sums .entry))) (wiped (pos 0) (coefficientsAsked (listed n s (now (cells .entry)))) (now (first .entry))) (now (first .entry)) ⌝ }
+    ensures { λ _. ⌜ now (second .exit) ≡ after (roomRefusal n s (now (cells .entry)) (now (room .entry)) (now (first .entry)) (now (second .entry)) (now (sums .entry))) (wiped (pos 0) (coefficientsAsked (listed n s (now (cells .entry)))) (now (second .entry))) (now (second .entry)) ⌝ }
+    ensures { λ _. ⌜ now (sums .exit) ≡ after (roomRefusal n s (now (cells .entry)) (now (room .entry)) (now (first .entry)) (now (second .entry)) (now (sums .entry))) (wiped 0 (dimensionWords (degreeBound n (listed n s (now (cells .entry))))) (now (sums .entry))) (now (sums .entry)) ⌝ }
+{
+    let c = cells_asked(n, s, cells, 0, &cells[0..0]);
+    if room.len() < c {
+        return refused(Refusal::CellRoom);
+    }
+    let k = coefficients_asked(n, s, cells, 0, &cells[0..0]);
+    if first.len() < k {
+        return refused(Refusal::CoefficientRoom);
+    }
+    if second.len() < k {
+        return refused(Refusal::CoefficientRoom);
+    }
+    let w = 2 * (d + 1);
+    if sums.len() < w {
+        return refused(Refusal::SumRoom);
+    }
+    let r = dimension_in(
+        n,
+        s,
+        cells,
+        d,
+        &mut room[..c],
+        &mut first[..k],
+        &mut second[..k],
+        &mut sums[..w],
+    );
+    answered(r, d as u64)
+}
+
+// The dimension; every room, of its asked size, is left at zero.
+fn dimension_in(
+    n: usize,
+    s: usize,
+    cells: &[u16],
+    d: usize,
+    room: &mut [u16],
+    first: &mut [i64],
+    second: &mut [i64],
+    sums: &mut [u64],
+) -> Wide
+    requires { ⌜ Cells n s (now cells) × Bounded n (listed n s (now cells)) d ⌝ }
+    requires { ⌜ Lent n (listed n s (now cells)) d (now room) (now first) (now second) (now sums) ⌝ }
+    ensures { λ r. ⌜ r ≡ wide (dimensionOf n (listed n s (now (cells .entry)))) ⌝ }
+    ensures { λ _. ⌜ now (room .exit) ≡ replicate (length (now (room .entry))) 0 ⌝ }
+    ensures { λ _. ⌜ now (first .exit) ≡ replicate (length (now (first .entry))) (pos 0) ⌝ }
+    ensures { λ _. ⌜ now (second .exit) ≡ replicate (length (now (second .entry))) (pos 0) ⌝ }
+    ensures { λ _. ⌜ now (sums .exit) ≡ replicate (length (now (sums .entry))) 0 ⌝ }
+{
+    hilbert_values(n, s, cells, d, room, first, second, sums);
+    let r = total(d + 1, sums);
+    zero(first);
+    wipe(sums, 2 * (d + 1));
+    r
+}
+
+// HF(0), .., HF(d) in `sums`, a two-word number each; `room` and `second` are left at zero.
+pub(crate) fn hilbert_values(
+    n: usize,
+    s: usize,
+    cells: &[u16],
+    d: usize,
+    room: &mut [u16],
+    first: &mut [i64],
+    second: &mut [i64],
+    sums: &mut [u64],
+)
+    requires { ⌜ Cells n s (now cells) × Bounded n (listed n s (now cells)) d ⌝ }
+    requires { ⌜ Lent n (listed n s (now cells)) d (now room) (now first) (now second) (now sums) ⌝ }
+    ensures { λ _. ⌜ ((k : ℕ) → k < d + 1 → numberAt (now (sums .exit)) k ≡ HF (listed n s (now (cells .entry))) n k) ⌝ }
+    ensures { λ _. ⌜ now (room .exit) ≡ replicate (length (now (room .entry))) 0 ⌝ }
+    ensures { λ _. ⌜ now (second .exit) ≡ replicate (length (now (second .entry))) (pos 0) ⌝ }
+{
+    numerator_in(n, s, cells, room, first, second);
+    prefix_sums(n, first, d + 1, sums);
+}

@@ -1,0 +1,3 @@
+-- The proofs of the reader of test vectors.
+mod Reading
+pub mod Determined
