@@ -1,0 +1,3 @@
+-- The proofs of the bridge.
+pub mod Determined
+mod Parts

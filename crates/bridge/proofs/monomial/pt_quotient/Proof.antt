@@ -1,0 +1,15 @@
+-- `pt_quotient` meets its contract: the answer is told as it is.
+use borrow.Author.Needs.{needs}
+use Rattle.bridge.proofs.monomial.pt_quotient.Statement.{statement}
+use Rattle.bridge.proofs.monomial.pt_quotient.Tie as tie
+
+pub pt-quotient-spec : {M : Type 1} → statement M
+pt-quotient-spec =
+    tie.close
+    (tie.spec
+    (λ c κs. search needs)
+    (λ c κs. search needs)
+    (λ c κs. search needs)
+    (λ c. search needs)
+    -- returns
+    (λ c. (rw (c .number-in .ensures, c .before .of-write .ensures, c .before .before .before .before .quotient .ensures .0), c .before .before .before .before .quotient .ensures .1)))

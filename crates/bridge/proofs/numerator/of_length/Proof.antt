@@ -1,0 +1,15 @@
+-- `of_length` meets its contract, case by case.
+use borrow.Author.Needs.{needs}
+use Rattle.bridge.proofs.numerator.of_length.Statement.{statement}
+use Rattle.bridge.proofs.numerator.of_length.Tie as tie
+
+pub of-length-spec : {M : Type 1} → statement M
+of-length-spec =
+    tie.close
+    (tie.spec
+    (λ c. search needs)
+    (λ c. search needs)
+    -- returns
+    (λ c. rw (c .before .outcome .given .1))
+    -- returns-2
+    (λ c. rw (c .before .outcome2 .given .1)))
