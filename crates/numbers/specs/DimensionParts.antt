@@ -27,7 +27,7 @@ use Rattle.numbers.specs.declared.dimension.Checked.{Checked}
 
 pub record Cells (n s : ℕ) (cells : List ℕ) : Type 0 where
   pub there : length cells ≡ s * n
-  pub width : n ≤ 4096
+  pub width : n ≤ 255
   pub count : s ≤ 60
 
 abbrev pub boundAnswer : ℕ → ℕ → List (List ℕ) → Bound

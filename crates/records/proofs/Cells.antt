@@ -25,7 +25,7 @@ use Rattle.laws.specs.Order.{degrevlex}
 use Rattle.laws.specs.Minimal.{proper, minimalIn}
 use Rattle.laws.proofs.Ideal.{listed-count}
 use Rattle.laws.proofs.Reading.{listed-at}
-use Rattle.monomials.specs.Cells.{orderOf}
+use Rattle.monomials.specs.Monomial.{orderOf}
 use Rattle.monomials.specs.Monomial.{degrevlexAnswer, dividesAnswer}
 use Rattle.monomials.specs.declared.refusal.Refusal.{Refusal}
 use Rattle.monomials.specs.declared.monomial.Order.{Order}

@@ -12,7 +12,7 @@ ghost use Rattle.laws.specs.Monomial.{divides as dividesOf};
 ghost use Rattle.laws.specs.Ideal.{listed, multiple};
 ghost use Rattle.laws.specs.Order.{degrevlex};
 ghost use Rattle.laws.specs.Minimal.{proper, minimalIn};
-ghost use Rattle.monomials.specs.Cells.{orderOf};
+ghost use Rattle.monomials.specs.Monomial.{orderOf};
 ghost use Rattle.records.specs.Rows.{row, above, stands};
 
 // How monomial i compares with monomial j by DegRevLex.
