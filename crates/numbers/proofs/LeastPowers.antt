@@ -86,7 +86,7 @@ module _ (n s : ℕ) (cells : List ℕ) (c : Cells n s cells) where
   pub row-there : (i : ℕ) → i < s → (i * n + n ≤ length cells) × (i * n + n ≤ 4096 * 4096)
   row-there i h =
       let a : suc i * n ≤ s * n = mul-le-mul-right n h in
-      let b : s * n ≤ 60 * 4096 = mul-le-mul (c .count) (c .width) in
+      let b : s * n ≤ 60 * 255 = mul-le-mul (c .count) (c .width) in
       (omega (arith, suc-mul i n, c .there), omega (arith, suc-mul i n))
 
   -- a monomial has n cells
