@@ -24,5 +24,5 @@ place-determined κs a r r′ s s′ p q = p ∙ sym q
 pub copy-record-determined : (κs : Lfts 2) (a : _) (r r′ : CopyAnswer) (s s′ : _) → copy-record-reads.Post κs a r s → copy-record-reads.Post κs a r′ s′ → (r ≡ r′) × (s .1 .0 .now ≡ s′ .1 .0 .now)
 copy-record-determined κs a r r′ s s′ p q = (p .0 ∙ sym (q .0), p .1 ∙ sym (q .1))
 
-pub write-answer-determined : (κs : Lfts 1) (a : _) (r r′ : CheckAnswer) (s s′ : _) → write-answer-reads.Post κs a r s → write-answer-reads.Post κs a r′ s′ → (r ≡ r′) × (s .1 .1 .1 .1 .0 .now ≡ s′ .1 .1 .1 .1 .0 .now)
+pub write-answer-determined : (κs : Lfts 1) (a : _) (r r′ : CheckAnswer) (s s′ : _) → write-answer-reads.Post κs a r s → write-answer-reads.Post κs a r′ s′ → (r ≡ r′) × (s .1 .1 .1 .0 .now ≡ s′ .1 .1 .1 .0 .now)
 write-answer-determined κs a r r′ s s′ p q = (p .0 ∙ sym (q .0), p .1 ∙ sym (q .1))
