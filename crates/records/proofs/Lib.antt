@@ -3,4 +3,5 @@ pub mod Cells
 pub mod Choosing
 pub mod Standing
 pub mod Answers
+pub mod HostCall
 pub mod DeterminedRecords
