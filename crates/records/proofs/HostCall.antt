@@ -1,25 +1,27 @@
 -- The steps behind the host call, in the words of its contract.
 --   first-passes, both-pass        where nothing is refused no check holds
---   dimension-small, top-small     a dimension that is not refused is below 2^127, and its top degree at most M
+--   dimension-small                a dimension that is not refused is below 2^127, and its top degree at most M
 --   top-fits                       so the top degree of a record's answer fits four bytes
---   told-is                        the answer record of a record's answer, and the call's answer, where the output has room
---   short-is                       and where it has not
+--   short-is                       what the contract says where the output has no room for an answer record
+--   roomy, roomy-bytes, told-is    and where it has: 12 and the dimension's checks decide, and the record's answer is written
+--   tell-done, tell-refused        how an answer is told
 --   done-number, refused-number    the number of the call's answer
 --   copied-shape, copied-refused   what copying a record into cells enough for every record tells
---   record-dimension, no-record-dimension   so the dimension of what was copied is the record's answer
+--   record-area                    how many cells these are
+--   record-dimension, no-record-dimension   the dimension of what was copied is the record's answer
 -- Assumes nothing.
 use mathlib.Core.Path.{_≡_, refl, sym, ap, _∙_}
 use mathlib.Core.Bool.{Bool, true, false, not, _||_, cond, false≢true}
 use mathlib.Core.List.{List, [], _∷_, _++_}
 use mathlib.Core.Option.{Option, none, some}
-use Prim.Native.Nat.{ℕ, _+_, _*_, _^_, _≤_, _<_}
+use Prim.Native.Nat.{ℕ, _*_, _^_, _≤_, _<_}
 use native.Mathlib.Nat.{lt-of-le-of-lt, lt-of-lt-of-le, mod-eq-of-lt}
 use native.Mathlib.Omega.{arith}
 use lib.Dec.{leb, ltb, eqb, lit≤, lit<}
 use lib.IntN.{ℤ}
 use lib.ListN.{length, drop}
 use lib.Pow.{areBytes}
-use borrow.Author.Tests.{lt-ltb, le-ltb, leb-false, ltb-false, ltb-true, eqb-true, not-false}
+use borrow.Author.Tests.{lt-ltb, le-ltb, leb-false, ltb-false, eqb-true, not-false}
 use Rattle.laws.specs.Dimension.{finite, degreeBound, powersProduct, dimension, topDegree}
 use Rattle.laws.specs.Ideal.{listed, Width, unitIn}
 use Rattle.laws.specs.Record.{isRecord, exponentsIn, listIn, widthIn, countIn}

@@ -4,4 +4,6 @@ pub mod Choosing
 pub mod Standing
 pub mod Answers
 pub mod HostCall
+pub mod Statuses
+pub mod LongInput
 pub mod DeterminedRecords

@@ -1,5 +1,4 @@
 -- `answer_record` meets its contract, return by return.
-use native.Mathlib.Omega.{arith}
 use lib.Dec.{lit<}
 use Rattle.records.proofs.HostCall.{top-fits, short-is, told-is}
 use borrow.Author.Needs.{needs}
