@@ -21,6 +21,9 @@ ghost use Rattle.records.specs.Ideal.{writeAnswer, writeBytes, placeAnsw
 // The exponents of a record with the greatest width and count.
 pub(crate) const MAX_CELLS: usize = MAX_WIDTH * MAX_COUNT;
 
+// The bytes of that record.
+pub const MAX_RECORD: usize = 7 + 2 * MAX_CELLS;
+
 // A size in bytes, or why there is none.
 pub enum SizeOutcome {
     Value(usize),
