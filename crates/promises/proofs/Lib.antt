@@ -1,0 +1,4 @@
+-- What the user was promised.
+mod Checks
+mod Answers
+pub mod Refusals

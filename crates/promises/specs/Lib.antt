@@ -1,0 +1,2 @@
+-- The words in which the promises are stated.
+pub mod Promise
