@@ -213,6 +213,69 @@ static int numerator(void) {
     return right;
 }
 
+/* Both lists, one after the other. */
+static struct part joined(struct part a, struct part b) {
+    struct part p = part(a.len + b.len, 2);
+    memcpy(at(p), at(a), 2 * a.len);
+    memcpy((unsigned char *)at(p) + 2 * a.len, at(b), 2 * b.len);
+    return p;
+}
+
+static int update(void) {
+    struct values v;
+    uint64_t n = number();
+    struct part g = list(8);
+    uint64_t s0 = number();
+    struct part existing = list(2);
+    uint64_t s1 = number();
+    struct part added = list(2), room = lend(2), first = lend(8), second = lend(8), all = joined(existing, added);
+    uint8_t answer = pt_update(n, at(g), g.len, s0, at(existing), existing.len, s1, at(added), added.len, at(room), room.len, at(first),
+                               first.len, at(second), second.len, lend_values(&v));
+    size_t asked = answer == 0 ? cells_asked(n, s0 + s1, all) : 0;
+    int right = coefficients_told(answer, &v, asked, room, first, second);
+    free(g.all), free(existing.all), free(added.all), free(all.all), free(room.all), free(first.all), free(second.all);
+    return right;
+}
+
+/* Whether no room is asked: there is a unit, or no variable. */
+static int at_once(uint64_t n, uint64_t s, struct part cells) {
+    int unit = n == 0;
+    for (uint64_t k = 0; k < s; k++) {
+        int zero = 1;
+        for (uint64_t v = 0; v < n; v++) zero &= element(cells, BESIDE + k * n + v) == 0;
+        unit |= zero;
+    }
+    return unit;
+}
+
+/* The coefficients asked: 1 and the degree of the lcm. */
+static size_t lcm_asked(uint64_t n, uint64_t s, struct part cells) {
+    size_t degree = 0;
+    for (uint64_t v = 0; v < n; v++) {
+        uint64_t most = 0;
+        for (uint64_t k = 0; k < s; k++) {
+            uint64_t x = element(cells, BESIDE + k * n + v);
+            if (x > most) most = x;
+        }
+        degree += most;
+    }
+    return degree + 1;
+}
+
+static int dimension(void) {
+    struct values v;
+    uint64_t n = number(), s = number();
+    struct part cells = list(2), room = lend(2), first = lend(8), second = lend(8), sums = lend(8);
+    uint8_t answer = pt_dimension(n, s, at(cells), cells.len, at(room), room.len, at(first), first.len, at(second), second.len, at(sums),
+                                  sums.len, lend_values(&v));
+    int right = told(answer, &v, 3);
+    int asks = answer == 0 && !at_once(n, s, cells);
+    right &= holds(room, 0, asks ? cells_asked(n, s, cells) : 0) && holds(sums, 0, asks ? 2 * (v.all[4] + 1) : 0);
+    right &= holds(first, 0, asks ? lcm_asked(n, s, cells) : 0) && holds(second, 0, asks ? lcm_asked(n, s, cells) : 0);
+    free(cells.all), free(room.all), free(first.all), free(second.all), free(sums.all);
+    return right;
+}
+
 /* Records. */
 
 static int write_record(void) {
@@ -268,7 +331,9 @@ static int replayed(uint64_t code) {
     case 11: return value_pair(pt_degrevlex);
     case 12: return mask();
     case 21: return numerator();
+    case 22: return update();
     case 23: return hf_at();
+    case 24: return dimension();
     case 25: return is_zero();
     case 26: return coeff_degree();
     case 27: return coeff();

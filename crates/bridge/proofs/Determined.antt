@@ -19,6 +19,8 @@ use Rattle.bridge.proofs.coefficients.pt_coeff_degree.Reads as coeff-de
 use Rattle.bridge.proofs.coefficients.pt_coeff.Reads as coeff
 use Rattle.bridge.proofs.hilbert.pt_hf_at.Reads as hf-at
 use Rattle.bridge.proofs.numerator.pt_numerator.Reads as numerator
+use Rattle.bridge.proofs.numerator.pt_update.Reads as update
+use Rattle.bridge.proofs.dimension.pt_dimension.Reads as dimension
 use Rattle.bridge.proofs.ideal.pt_write_record.Reads as write-record
 use Rattle.bridge.proofs.ideal.pt_check_place.Reads as check-place
 use Rattle.bridge.proofs.ideal.pt_place.Reads as place
@@ -79,6 +81,12 @@ pt-hf-at κs a r r′ s s′ p q = (p .0 ∙ sym (q .0), both (p .1) (q .1))
 pub pt-numerator : (κs : Lfts 5) (a : _) (r r′ : ℕ) (s s′ : _) → numerator.Post κs a r s → numerator.Post κs a r′ s′ → (r ≡ r′) × ((s .1 .1 .1 .0 .now ≡ s′ .1 .1 .1 .0 .now) × ((s .1 .1 .1 .1 .0 .now ≡ s′ .1 .1 .1 .1 .0 .now) × ((s .1 .1 .1 .1 .1 .0 .now ≡ s′ .1 .1 .1 .1 .1 .0 .now) × (s .1 .1 .1 .1 .1 .1 .0 .now ≡ s′ .1 .1 .1 .1 .1 .1 .0 .now))))
 pt-numerator κs a r r′ s s′ p q =
     (p .0 ∙ sym (q .0), (p .1 .0 ∙ sym (q .1 .0), (p .1 .1 .0 ∙ sym (q .1 .1 .0), both (p .1 .1 .1) (q .1 .1 .1))))
+
+pub pt-update : (κs : Lfts 7) (a : _) (r r′ : ℕ) (s s′ : _) → update.Post κs a r s → update.Post κs a r′ s′ → (r ≡ r′) × ((s .1 .1 .1 .1 .1 .1 .0 .now ≡ s′ .1 .1 .1 .1 .1 .1 .0 .now) × ((s .1 .1 .1 .1 .1 .1 .1 .0 .now ≡ s′ .1 .1 .1 .1 .1 .1 .1 .0 .now) × ((s .1 .1 .1 .1 .1 .1 .1 .1 .0 .now ≡ s′ .1 .1 .1 .1 .1 .1 .1 .1 .0 .now) × (s .1 .1 .1 .1 .1 .1 .1 .1 .1 .0 .now ≡ s′ .1 .1 .1 .1 .1 .1 .1 .1 .1 .0 .now))))
+pt-update κs a r r′ s s′ p q = (p .0 ∙ sym (q .0), (p .1 .0 ∙ sym (q .1 .0), (p .1 .1 .0 ∙ sym (q .1 .1 .0), both (p .1 .1 .1) (q .1 .1 .1))))
+
+pub pt-dimension : (κs : Lfts 6) (a : _) (r r′ : ℕ) (s s′ : _) → dimension.Post κs a r s → dimension.Post κs a r′ s′ → (r ≡ r′) × ((s .1 .1 .1 .0 .now ≡ s′ .1 .1 .1 .0 .now) × ((s .1 .1 .1 .1 .0 .now ≡ s′ .1 .1 .1 .1 .0 .now) × ((s .1 .1 .1 .1 .1 .0 .now ≡ s′ .1 .1 .1 .1 .1 .0 .now) × ((s .1 .1 .1 .1 .1 .1 .0 .now ≡ s′ .1 .1 .1 .1 .1 .1 .0 .now) × (s .1 .1 .1 .1 .1 .1 .1 .0 .now ≡ s′ .1 .1 .1 .1 .1 .1 .1 .0 .now)))))
+pt-dimension κs a r r′ s s′ p q = (p .0 ∙ sym (q .0), (p .1 .0 ∙ sym (q .1 .0), (p .1 .1 .0 ∙ sym (q .1 .1 .0), (p .1 .1 .1 .0 ∙ sym (q .1 .1 .1 .0), both (p .1 .1 .1 .1) (q .1 .1 .1 .1)))))
 
 pub pt-write-record : (κs : Lfts 3) (a : _) (r r′ : ℕ) (s s′ : _) → write-record.Post κs a r s → write-record.Post κs a r′ s′ → (r ≡ r′) × ((s .1 .1 .1 .0 .now ≡ s′ .1 .1 .1 .0 .now) × (s .1 .1 .1 .1 .0 .now ≡ s′ .1 .1 .1 .1 .0 .now))
 pt-write-record κs a r r′ s s′ p q = (p .0 ∙ sym (q .0), both (p .1) (q .1))

@@ -1,8 +1,9 @@
--- The answers of the calls on coefficient lists, of the numerator and of the Hilbert function, as the bridge tells them.
---   ofWord x     == the word x
---   ofDegree a   == 1 and the degree, or 0 for none
---   ofSigned a   == the low word, the high word
---   ofLength a   == the length
+-- The answers of the calls on coefficient lists, of the numerator, the Hilbert function and the dimension, as the bridge tells them.
+--   ofWord x      == the word x
+--   ofDegree a    == 1 and the degree, or 0 for none
+--   ofSigned a    == the low word, the high word
+--   ofLength a    == the length
+--   ofDimension a == the low word, the high word, the top degree
 -- Assumes nothing.
 use mathlib.Core.Path.{_≡_, refl}
 use mathlib.Core.List.{List, [], _∷_}
@@ -17,6 +18,8 @@ use Rattle.numbers.specs.declared.hf_at.SignedOutcome.{SignedOutcome}
 use Rattle.numbers.specs.declared.hf_at.SignedAnswer.{SignedAnswer}
 use Rattle.numbers.specs.declared.numerator.LengthOutcome.{LengthOutcome}
 use Rattle.numbers.specs.declared.numerator.LengthAnswer.{LengthAnswer}
+use Rattle.numbers.specs.declared.dimension.DimensionOutcome.{DimensionOutcome}
+use Rattle.numbers.specs.declared.dimension.DimensionAnswer.{DimensionAnswer}
 use Rattle.bridge.specs.declared.told.Told.{Told}
 use Rattle.bridge.specs.Told.{numberIn, valuesIn}
 
@@ -43,6 +46,13 @@ lengthTold (LengthOutcome.Refused r) = Told.Refused r
 
 abbrev pub ofLength : LengthAnswer → Told
 ofLength a = lengthTold (a .outcome)
+
+abbrev pub dimensionTold : DimensionOutcome → Told
+dimensionTold (DimensionOutcome.Value d) = Told.Done (d .dimension .low) (d .dimension .high) (d .top)
+dimensionTold (DimensionOutcome.Refused r) = Told.Refused r
+
+abbrev pub ofDimension : DimensionAnswer → Told
+ofDimension a = dimensionTold (a .outcome)
 
 test-degree : valuesIn (ofDegree (degreeOf (pos 1 ∷ negsuc 1 ∷ pos 0 ∷ []))) (9 ∷ 8 ∷ 7 ∷ 6 ∷ []) ≡ 1 ∷ 1 ∷ 0 ∷ 0 ∷ []
 test-degree = refl
