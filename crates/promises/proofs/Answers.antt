@@ -20,8 +20,10 @@ use Rattle.monomials.specs.declared.monomial.OrderAnswer.{OrderAnswer}
 use Rattle.monomials.specs.Refusal.{Check, refusal, after}
 use Rattle.monomials.specs.Mask.{judged}
 use Rattle.monomials.specs.Monomial.{numberAnswer, writeAnswer, testAnswer, orderAnswer}
+use Rattle.numbers.specs.Dimension.{dimensionIs}
 use Rattle.numbers.specs.Hilbert.{signedAnswer}
 use Rattle.numbers.specs.Numerator.{lengthAnswer}
+use Rattle.numbers.specs.declared.dimension.DimensionAnswer.{DimensionAnswer}
 use Rattle.numbers.specs.declared.hf_at.SignedAnswer.{SignedAnswer}
 use Rattle.numbers.specs.declared.numerator.LengthAnswer.{LengthAnswer}
 use Rattle.records.specs.declared.ideal.SizeAnswer.{SizeAnswer}
@@ -30,7 +32,7 @@ use Rattle.records.specs.declared.ideal.CopyAnswer.{CopyAnswer}
 use Rattle.records.specs.Ideal.{sizeAnswer, checkAnswer, shapeAnswer}
 use Rattle.bridge.specs.Told.{numberIn}
 use Rattle.bridge.specs.Monomials.{ofNumber, ofWrite, ofTest, ofOrder, ofMask}
-use Rattle.bridge.specs.Numbers.{ofSigned, ofLength}
+use Rattle.bridge.specs.Numbers.{ofSigned, ofLength, ofDimension}
 use Rattle.bridge.specs.Records.{ofSize, ofCheck, ofCopy}
 use Rattle.promises.specs.Promise.{Rule, First, After}
 use Rattle.promises.proofs.Checks.{numberOf, Means, by-checks, by-after}
@@ -109,6 +111,13 @@ copy-first cs n m p h = by-checks (λ (a : CopyAnswer). numberIn (ofCopy a)) cs 
 
 pub copy-after : {A : Type 0} (o : Option Refusal) (n m : ℕ) {a : CopyAnswer} {w x y : A} → a ≡ shapeAnswer o n m → w ≡ after o y x → After (numberIn (ofCopy a)) w x y
 copy-after o n m p q = by-after (λ (a : CopyAnswer). numberIn (ofCopy a)) o p (copy-number o n m) q
+
+pub dimension-number : (o : Option Refusal) (n : ℕ) (L : List (List ℕ)) → numberIn (ofDimension (dimensionIs o n L)) ≡ numberOf o
+dimension-number none n L = refl
+dimension-number (some r) n L = refl
+
+pub dimension-after : {A : Type 0} (o : Option Refusal) (n : ℕ) (L : List (List ℕ)) {a : DimensionAnswer} {w x y : A} → a ≡ dimensionIs o n L → w ≡ after o y x → After (numberIn (ofDimension a)) w x y
+dimension-after o n L p q = by-after (λ (a : DimensionAnswer). numberIn (ofDimension a)) o p (dimension-number o n L) q
 
 pub check-number : (o : Option Refusal) → numberIn (ofCheck (checkAnswer o) 0) ≡ numberOf o
 check-number none = refl

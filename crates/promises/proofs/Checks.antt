@@ -11,11 +11,12 @@ use mathlib.Core.Logic.{_≢_, _↔_, _⊎_, inl, inr}
 use mathlib.Core.Bool.{Bool, true, false, not, _&&_, _||_, cond, false≢true}
 use mathlib.Core.List.{List, [], _∷_, _++_}
 use mathlib.Core.Option.{Option, none, some}
-use Prim.Native.Nat.{ℕ, zero, suc, _+_, _≤_, _<_}
+use Prim.Native.Nat.{ℕ, zero, suc, _+_, _*_, _≤_, _<_}
 use native.Mathlib.Omega.{arith}
 use lib.Dec.{leb, ltb, eqb}
 use borrow.Author.Tests.{ltb-true, lt-ltb, leb-true, leb-false, le-leb, lt-leb, eq-eqb, eqb-true, eqb-false, ne-eqb, not-true}
 use lib.IntN.{ℤ, natAbs}
+use lib.ListN.{length}
 use Rattle.laws.specs.Monomial.{degree, exponent, product, divides}
 use Rattle.laws.specs.Coefficients.{coefficient}
 use Rattle.laws.specs.Dimension.{leastPower, finite, degreeBound}
@@ -24,6 +25,7 @@ use Rattle.laws.proofs.Monomial.{or-right, not-true as fails}
 use Rattle.laws.proofs.Dimension.{finite-power}
 use Rattle.laws.proofs.Ideal.{unit-member}
 use Rattle.numbers.specs.Dimension.{noDimension}
+use Rattle.numbers.specs.Numerator.{listChecks}
 use Rattle.numbers.specs.Update.{beyond}
 use Rattle.monomials.specs.Monomial.{atMost}
 use Rattle.monomials.specs.Refusal.{number, Check, refusal, after}
@@ -74,6 +76,9 @@ reaches a b = (leb-true a b, le-leb a b)
 pub differs : (a b : ℕ) → (not (eqb a b) ≡ true) ↔ (a ≢ b)
 differs a b = (λ h. eqb-false a b (not-true (eqb a b) h), λ h. ap not (ne-eqb a b h))
 
+pub equals : (a b : ℕ) → (eqb a b ≡ true) ↔ (a ≡ b)
+equals a b = (eqb-true a b, eq-eqb a b)
+
 pub either : {P Q : Type 0} (s t : Bool) → (s ≡ true) ↔ P → (t ≡ true) ↔ Q → ((s || t) ≡ true) ↔ (P ⊎ Q)
 either true t f g = (λ h. inl (f .0 refl), λ h. refl)
 either false t f g = (λ h. inr (g .0 h), λ h. elim h [ inl p ↦ absurd (false≢true (f .1 p)) | inr q ↦ g .1 q ])
@@ -112,17 +117,26 @@ by-after f o {w} {x} {y} p e q = rw (q, p, e) (after-number o x y)
 
 -- answers that come before the later checks
 
-pub first-append : (cs : List Check) (rs : List Rule) (ds : List Check) (qs : List Rule) → Means cs rs → Decided qs (numberOf (refusal ds)) → Decided (rs ++ qs) (numberOf (refusal (cs ++ ds)))
+-- checks cs with the rules rs in front of others
+first-append : (cs : List Check) (rs : List Rule) (ds : List Check) (qs : List Rule) → Means cs rs → Decided qs (numberOf (refusal ds)) → Decided (rs ++ qs) (numberOf (refusal (cs ++ ds)))
 first-append [] [] ds qs m f = f
 first-append [] (r ∷ rs) ds qs m f = absurd m
 first-append (c ∷ cs) [] ds qs m f = absurd m
 first-append ((true, q) ∷ cs) (r ∷ rs) ds qs m f = inl (m .0 .0 refl, m .1 .0)
 first-append ((false, q) ∷ cs) (r ∷ rs) ds qs m f = inr (λ h. false≢true (m .0 .1 h), first-append cs rs ds qs (m .1 .1) f)
 
-pub first-early : {P Q : Type 0} (s t : Bool) (ds : List Check) (rs : List Rule) → (s ≡ true) ↔ P → (t ≡ true) ↔ Q → Means ds rs → Decided ((P, 0) ∷ (Q, 0) ∷ rs) (numberOf (refusal (cond (s || t) [] ds)))
-first-early true t ds rs f g m = inl (f .0 refl, refl)
-first-early false true ds rs f g m = inr (λ h. false≢true (f .1 h), inl (g .0 refl, refl))
-first-early false false ds rs f g m = inr (λ h. false≢true (f .1 h), inr (λ h. false≢true (g .1 h), first-holds ds rs m))
+-- checks 1, 2 and 3 of a list
+pub list-first : (n s : ℕ) (cells : List ℕ) (ds : List Check) {qs : List Rule} → First qs (numberOf (refusal ds))
+    → First ((255 < n, 1) ∷ (60 < s, 2) ∷ (length cells ≢ s * n, 3) ∷ qs) (numberOf (refusal (listChecks 255 60 n s cells ++ ds)))
+list-first n s cells ds {qs} f =
+    let m : Means (listChecks 255 60 n s cells) ((255 < n, 1) ∷ (60 < s, 2) ∷ (length cells ≢ s * n, 3) ∷ []) = (above 255 n, (refl, (above 60 s, (refl, (differs (length cells) (s * n), (refl, tt)))))) in
+    record { decided = first-append (listChecks 255 60 n s cells) ((255 < n, 1) ∷ (60 < s, 2) ∷ (length cells ≢ s * n, 3) ∷ []) ds qs m (f .decided) }
+
+-- two conditions under which nothing more is looked at
+pub early-first : {P Q : Type 0} (s t : Bool) (ds : List Check) {rs : List Rule} → (s ≡ true) ↔ P → (t ≡ true) ↔ Q → Means ds rs → First ((P, 0) ∷ (Q, 0) ∷ rs) (numberOf (refusal (cond (s || t) [] ds)))
+early-first true t ds f g m = record { decided = inl (f .0 refl, refl) }
+early-first false true ds f g m = record { decided = inr (λ h. false≢true (f .1 h), inl (g .0 refl, refl)) }
+early-first false false ds {rs} f g m = record { decided = inr (λ h. false≢true (f .1 h), inr (λ h. false≢true (g .1 h), first-holds ds rs m)) }
 
 -- the conditions of 01 that are not comparisons
 

@@ -1,24 +1,28 @@
 -- Demand 1.
 use mathlib.Core.Path.{_≡_, refl, sym, ap, _∙_}
-use mathlib.Core.Logic.{_≢_, _↔_, _⊎_}
-use mathlib.Core.Bool.{Bool, true, not}
+use mathlib.Core.Logic.{_≢_, _↔_, _⊎_, inl, inr}
+use mathlib.Core.Bool.{Bool, true, false, not, cond}
 use mathlib.Core.List.{List, [], _∷_, _++_}
 use Prim.Native.Nat.{ℕ, _+_, _*_, _^_, _≤_, _<_}
-use lib.Dec.{leb}
-use lib.IntN.{ℤ, pos}
+use native.Mathlib.Omega.{arith}
+use lib.Dec.{leb, ltb, eqb}
+use lib.IntN.{ℤ, pos, natAbs}
 use lib.ListN.{length}
 use contract.Lifetimes.{Lfts}
-use Rattle.laws.specs.Ideal.{listed}
+use Rattle.laws.specs.Coefficients.{coefficient}
+use Rattle.laws.specs.Dimension.{leastPower, degreeBound, powersProduct}
+use Rattle.laws.specs.Hilbert.{hilbert, hilbertSize}
+use Rattle.laws.specs.Ideal.{listed, In, unitIn}
 use Rattle.laws.specs.Mask.{mask}
 use Rattle.laws.specs.Monomial.{degree, exponent, divides, product, quotient, lcm, gcd, coprime, power}
-use Rattle.laws.specs.Numerator.{numerator}
-use Rattle.laws.specs.Room.{cellsAsked, coefficientsAsked}
+use Rattle.laws.specs.Numerator.{numerator, update}
+use Rattle.laws.specs.Room.{cellsAsked, coefficientsAsked, updateAsked}
 use Rattle.laws.specs.Order.{lex, degrevlex}
 use Rattle.monomials.specs.Mask.{ofWords}
 use Rattle.monomials.specs.Monomial.{atMost, pairChecks, writeChecks, powerChecks, productChecks, quotientChecks}
-use Rattle.monomials.specs.Refusal.{number, refusal, tooWide}
+use Rattle.monomials.specs.Refusal.{number, refusal, after, tooWide}
 use Rattle.monomials.specs.declared.refusal.Refusal.{Refusal}
-use Rattle.monomials.specs.declared.refusal.Refusal.the-variants.{Place, Exponent, Division}
+use Rattle.monomials.specs.declared.refusal.Refusal.the-variants.{Width, Place, Exponent, Division, SumRoom, Degree, Value}
 use Rattle.monomials.specs.declared.divmask.MaskAnswer.{MaskAnswer}
 use Rattle.monomials.specs.declared.monomial.NumberAnswer.{NumberAnswer}
 use Rattle.monomials.specs.declared.monomial.WriteAnswer.{WriteAnswer}
@@ -36,15 +40,29 @@ use Rattle.monomials.proofs.monomial.is_coprime.Reads as is_coprime
 use Rattle.monomials.proofs.monomial.cmp_lex.Reads as cmp_lex
 use Rattle.monomials.proofs.monomial.cmp_degrevlex.Reads as cmp_degrevlex
 use Rattle.monomials.proofs.divmask.mask.Reads as mask_of
-use Rattle.numbers.specs.Numerator.{wiped, padded, listChecks, numeratorChecks}
+use Rattle.numbers.specs.Dimension.{atOnce, boundChecks, roomChecks, dimensionChecks}
+use Rattle.numbers.specs.Hilbert.{hilbertChecks}
+use Rattle.numbers.specs.Numerator.{wiped, padded, listChecks, cellRoom, coefficientRooms, numeratorChecks}
+use Rattle.numbers.specs.Update.{updateChecks}
+use Rattle.numbers.specs.declared.dimension.DimensionAnswer.{DimensionAnswer}
+use Rattle.numbers.specs.declared.hf_at.SignedAnswer.{SignedAnswer}
 use Rattle.numbers.specs.declared.numerator.LengthAnswer.{LengthAnswer}
 use Rattle.numbers.proofs.numerator.hilbert_numerator.Reads as hilbert_numerator
+use Rattle.numbers.proofs.update.add_generators.Reads as add_generators
+use Rattle.numbers.proofs.hf_at.hf_at.Reads as hf_at
+use Rattle.numbers.proofs.dimension.quotient_dimension.Reads as quotient_dimension
 use Rattle.bridge.specs.Told.{numberIn}
 use Rattle.bridge.specs.Monomials.{ofNumber, ofWrite, ofTest, ofOrder, ofMask}
-use Rattle.bridge.specs.Numbers.{ofSigned, ofLength}
+use Rattle.bridge.specs.Numbers.{ofSigned, ofLength, ofDimension}
 use Rattle.promises.specs.Promise.{Slice, _⨾_, First, After}
-use Rattle.promises.proofs.Checks.{Means, above, reaches, differs, either, product-above, not-divides}
-use Rattle.promises.proofs.Answers.{number-first, write-first, write-after, test-first, order-first, mask-first, length-first, length-after}
+use Rattle.promises.proofs.Checks.{Means, numberOf, list-first, early-first, above, reaches, differs, equals, either, product-above, not-divides, coefficient-beyond, unit-in, no-dimension}
+use Rattle.promises.proofs.Answers.{number-first, write-first, write-after, test-first, order-first, mask-first, length-first, length-after, signed-first, signed-number, dimension-number, dimension-after}
+
+-- what checks 7 and 8 say
+rooms-means : (c k : ℕ) (room : List ℕ) (p q : List ℤ)
+    → Means (cellRoom c room ∷ coefficientRooms k p q ∷ []) ((length room < c, 7) ∷ ((length p < k) ⊎ (length q < k), 8) ∷ [])
+rooms-means c k room p q =
+    (above (length room) c, (refl, (either (ltb (length p) k) (ltb (length q) k) (above (length p) k) (above (length q) k), (refl, tt))))
 
 -- monomials
 
@@ -150,35 +168,117 @@ mask-of κs n most exponents r p = mask-first (tooWide 255 n ∷ []) (ofWords (m
 
 -- numbers
 
-list-means : (n s : ℕ) (cells : List ℕ) → Means (listChecks 255 60 n s cells) ((255 < n, 1) ∷ (60 < s, 2) ∷ (length cells ≢ s * n, 3) ∷ [])
-list-means n s cells = (above 255 n, (refl, (above 60 s, (refl, (differs (length cells) (s * n), (refl, tt))))))
-
 module _ (κs : Lfts 4) (n s : ℕ) (cells room : Slice ℕ) (first second : Slice ℤ) (r : LengthAnswer) (room′ : Slice ℕ) (first′ second′ : Slice ℤ)
     (outcome : hilbert_numerator.Post κs (n ⨾ s ⨾ cells ⨾ room ⨾ first ⨾ second ⨾ tt) r (n ⨾ s ⨾ cells ⨾ room′ ⨾ first′ ⨾ second′ ⨾ tt)) where
-  pub numerator-of : let L = listed n s (cells .now) in
+  pub hilbert-numerator : let L = listed n s (cells .now) in let k = numberIn (ofLength r) in
       First
       ((255 < n, 1)
       ∷ (60 < s, 2)
       ∷ (length (cells .now) ≢ s * n, 3)
       ∷ (length (room .now) < cellsAsked n L, 7)
       ∷ ((length (first .now) < coefficientsAsked L) ⊎ (length (second .now) < coefficientsAsked L), 8)
-      ∷ [])
-      (numberIn (ofLength r))
-      × After (numberIn (ofLength r)) (room′ .now) (room .now) (wiped 0 (cellsAsked n L) (room .now))
-      × After (numberIn (ofLength r)) (first′ .now) (first .now) (padded (pos 0) (coefficientsAsked L) (numerator L) (first .now))
-      × After (numberIn (ofLength r)) (second′ .now) (second .now) (wiped (pos 0) (coefficientsAsked L) (second .now))
-  numerator-of =
+      ∷ []) k
+      × After k (room′ .now) (room .now) (wiped 0 (cellsAsked n L) (room .now))
+      × After k (first′ .now) (first .now) (padded (pos 0) (coefficientsAsked L) (numerator L) (first .now))
+      × After k (second′ .now) (second .now) (wiped (pos 0) (coefficientsAsked L) (second .now))
+  hilbert-numerator =
       let L : List (List ℕ) = listed n s (cells .now) in
       let cs = numeratorChecks 255 60 n s (cells .now) (room .now) (first .now) (second .now) in
-      let k = length (numerator L) in (
-        length-first cs k (outcome .0) (
-          above 255 n,
-          (
-            refl,
-            (above 60 s, (refl, (differs (length (cells .now)) (s * n), (refl, (above (length (room .now)) (cellsAsked n L), (refl, (either _ _ (above (length (first .now)) (coefficientsAsked L)) (above (length (second .now)) (coefficientsAsked L)), (refl, tt)))))))),
-          ),
-        ),
-        length-after (refusal cs) k (outcome .0) (outcome .1 .0),
-        length-after (refusal cs) k (outcome .0) (outcome .1 .1 .0),
-        length-after (refusal cs) k (outcome .0) (outcome .1 .1 .1),
+      let j = length (numerator L) in (
+        length-first cs j (outcome .0)
+        (above 255 n, (refl, (above 60 s, (refl, (differs (length (cells .now)) (s * n), (refl, rooms-means (cellsAsked n L) (coefficientsAsked L) (room .now) (first .now) (second .now))))))),
+        length-after (refusal cs) j (outcome .0) (outcome .1 .0),
+        length-after (refusal cs) j (outcome .0) (outcome .1 .1 .0),
+        length-after (refusal cs) j (outcome .0) (outcome .1 .1 .1),
+      )
+
+module _ (κs : Lfts 6) (n : ℕ) (given : Slice ℤ) (s0 : ℕ) (existing : Slice ℕ) (s1 : ℕ) (added room : Slice ℕ) (first second : Slice ℤ) (r : LengthAnswer)
+    (room′ : Slice ℕ) (first′ second′ : Slice ℤ)
+    (outcome : add_generators.Post κs (n ⨾ given ⨾ s0 ⨾ existing ⨾ s1 ⨾ added ⨾ room ⨾ first ⨾ second ⨾ tt) r (n ⨾ given ⨾ s0 ⨾ existing ⨾ s1 ⨾ added ⨾ room′ ⨾ first′ ⨾ second′ ⨾ tt)) where
+  pub add-generators : let L = listed n s0 (existing .now) in let K = listed n s1 (added .now) in let G = given .now in let k = numberIn (ofLength r) in
+      First
+      ((255 < n, 1)
+      ∷ (60 < s0 + s1, 2)
+      ∷ (length (existing .now) ≢ s0 * n, 3)
+      ∷ (length (added .now) ≢ s1 * n, 3)
+      ∷ ((i : ℕ) × (2 ^ 61 < natAbs (coefficient G i)), 15)
+      ∷ (length (room .now) < cellsAsked n (L ++ K), 7)
+      ∷ ((length (first .now) < updateAsked G (L ++ K)) ⊎ (length (second .now) < updateAsked G (L ++ K)), 8)
+      ∷ []) k
+      × After k (room′ .now) (room .now) (wiped 0 (cellsAsked n (L ++ K)) (room .now))
+      × After k (first′ .now) (first .now) (padded (pos 0) (updateAsked G (L ++ K)) (update G L K) (first .now))
+      × After k (second′ .now) (second .now) (wiped (pos 0) (updateAsked G (L ++ K)) (second .now))
+  add-generators =
+      let L : List (List ℕ) = listed n s0 (existing .now) in
+      let K : List (List ℕ) = listed n s1 (added .now) in
+      let G : List ℤ = given .now in
+      let cs = updateChecks 255 60 (2 ^ 61) n G s0 (existing .now) s1 (added .now) (room .now) (first .now) (second .now) in
+      let j = length (update G L K) in (
+        length-first cs j (outcome .0)
+        (above 255 n, (refl, (above 60 (s0 + s1), (refl, (differs (length (existing .now)) (s0 * n), (refl, (differs (length (added .now)) (s1 * n), (refl, (coefficient-beyond (2 ^ 61) G, (refl, rooms-means (cellsAsked n (L ++ K)) (updateAsked G (L ++ K)) (room .now) (first .now) (second .now))))))))))),
+        length-after (refusal cs) j (outcome .0) (outcome .1 .0),
+        length-after (refusal cs) j (outcome .0) (outcome .1 .1 .0),
+        length-after (refusal cs) j (outcome .0) (outcome .1 .1 .1),
+      )
+
+-- what `hf_at` leaves in the sum room, by its four checks
+sums-left : (a b c t : Bool) (w y x : List ℕ) → w ≡ after (refusal ((a, Width) ∷ (b, Degree) ∷ (c, SumRoom) ∷ [])) y x
+    → let k = numberOf (refusal ((a, Width) ∷ (b, Degree) ∷ (c, SumRoom) ∷ (t, Value) ∷ [])) in
+    ((k ≡ 0) ⊎ (k ≡ 11) → w ≡ y) × (k ≢ 0 → k ≢ 11 → w ≡ x)
+sums-left true b c t w y x e = (λ h. absurd (elim h [ inl p ↦ omega arith | inr p ↦ omega arith ]), λ h g. e)
+sums-left false true c t w y x e = (λ h. absurd (elim h [ inl p ↦ omega arith | inr p ↦ omega arith ]), λ h g. e)
+sums-left false false true t w y x e = (λ h. absurd (elim h [ inl p ↦ omega arith | inr p ↦ omega arith ]), λ h g. e)
+sums-left false false false true w y x e = (λ h. e, λ h g. absurd (g refl))
+sums-left false false false false w y x e = (λ h. e, λ h g. absurd (h refl))
+
+-- the first exception: after 11 the sum room is zero in its asked part
+module _ (κs : Lfts 2) (n : ℕ) (given : Slice ℤ) (d : ℕ) (sums : Slice ℕ) (r : SignedAnswer) (sums′ : Slice ℕ)
+    (outcome : hf_at.Post κs (n ⨾ given ⨾ d ⨾ sums ⨾ tt) r (n ⨾ given ⨾ d ⨾ sums′ ⨾ tt)) where
+  pub hf-at : let k = numberIn (ofSigned r) in
+      First
+      ((255 < n, 1) ∷ (65536 < d, 10) ∷ (length (sums .now) < 4 * (d + 1), 9) ∷ (2 ^ 127 ≤ hilbertSize (given .now) n d, 11) ∷ []) k
+      × ((k ≡ 0) ⊎ (k ≡ 11) → sums′ .now ≡ wiped 0 (4 * (d + 1)) (sums .now))
+      × (k ≢ 0 → k ≢ 11 → sums′ .now ≡ sums .now)
+  hf-at =
+      let cs = hilbertChecks 255 65536 n (given .now) d (sums .now) in
+      let k = numberIn (ofSigned r) in
+      let e : k ≡ numberOf (refusal cs) = ap (λ (a : SignedAnswer). numberIn (ofSigned a)) (outcome .0) ∙ signed-number (refusal cs) (hilbert (given .now) n d) in
+      let left = sums-left (ltb 255 n) (ltb 65536 d) (ltb (length (sums .now)) (4 * (d + 1))) (leb (2 ^ 127) (hilbertSize (given .now) n d)) (sums′ .now) (wiped 0 (4 * (d + 1)) (sums .now)) (sums .now) (outcome .1) in (
+        signed-first cs (hilbert (given .now) n d) (outcome .0)
+        (above 255 n, (refl, (above 65536 d, (refl, (above (length (sums .now)) (4 * (d + 1)), (refl, (reaches (2 ^ 127) (hilbertSize (given .now) n d), (refl, tt)))))))),
+        λ h. left .0 (rw e at h),
+        λ h g. left .1 (rw e at h) (rw e at g),
+      )
+
+-- a unit, and no variables, are answered before any room is looked at, and then no room is touched
+module _ (κs : Lfts 5) (n s : ℕ) (cells room : Slice ℕ) (first second : Slice ℤ) (sums : Slice ℕ) (r : DimensionAnswer) (room′ : Slice ℕ) (first′ second′ : Slice ℤ) (sums′ : Slice ℕ)
+    (outcome : quotient_dimension.Post κs (n ⨾ s ⨾ cells ⨾ room ⨾ first ⨾ second ⨾ sums ⨾ tt) r (n ⨾ s ⨾ cells ⨾ room′ ⨾ first′ ⨾ second′ ⨾ sums′ ⨾ tt)) where
+  pub quotient-dimension : let L = listed n s (cells .now) in let k = numberIn (ofDimension r) in
+      First
+      ((255 < n, 1)
+      ∷ (60 < s, 2)
+      ∷ (length (cells .now) ≢ s * n, 3)
+      ∷ ((m : List ℕ) × In m L × (degree m ≡ 0), 0)
+      ∷ (n ≡ 0, 0)
+      ∷ (((v : ℕ) × (v < n) × (leastPower L v ≡ 0)) ⊎ (65536 < degreeBound n L), 13)
+      ∷ (2 ^ 127 ≤ powersProduct n L, 11)
+      ∷ (length (room .now) < cellsAsked n L, 7)
+      ∷ ((length (first .now) < coefficientsAsked L) ⊎ (length (second .now) < coefficientsAsked L), 8)
+      ∷ (length (sums .now) < 2 * (degreeBound n L + 1), 9)
+      ∷ []) k
+      × After k (room′ .now) (room .now) (cond (atOnce n L) (room .now) (wiped 0 (cellsAsked n L) (room .now)))
+      × After k (first′ .now) (first .now) (cond (atOnce n L) (first .now) (wiped (pos 0) (coefficientsAsked L) (first .now)))
+      × After k (second′ .now) (second .now) (cond (atOnce n L) (second .now) (wiped (pos 0) (coefficientsAsked L) (second .now)))
+      × After k (sums′ .now) (sums .now) (cond (atOnce n L) (sums .now) (wiped 0 (2 * (degreeBound n L + 1)) (sums .now)))
+  quotient-dimension =
+      let L : List (List ℕ) = listed n s (cells .now) in
+      let cs = dimensionChecks 255 60 65536 n s (cells .now) (room .now) (first .now) (second .now) (sums .now) in
+      let ds = boundChecks 65536 n L ++ roomChecks n L (room .now) (first .now) (second .now) (sums .now) in
+      let e : numberIn (ofDimension r) ≡ numberOf (refusal cs) = ap (λ (a : DimensionAnswer). numberIn (ofDimension a)) (outcome .0) ∙ dimension-number (refusal cs) n L in (
+        rw e (list-first n s (cells .now) (cond (atOnce n L) [] ds) (early-first (unitIn L) (eqb n 0) ds (unit-in L) (equals n 0)
+        (no-dimension 65536 n L, (refl, (reaches (2 ^ 127) (powersProduct n L), (refl, (above (length (room .now)) (cellsAsked n L), (refl, (either (ltb (length (first .now)) (coefficientsAsked L)) (ltb (length (second .now)) (coefficientsAsked L)) (above (length (first .now)) (coefficientsAsked L)) (above (length (second .now)) (coefficientsAsked L)), (refl, (above (length (sums .now)) (2 * (degreeBound n L + 1)), (refl, tt)))))))))))),
+        dimension-after (refusal cs) n L (outcome .0) (outcome .1 .0),
+        dimension-after (refusal cs) n L (outcome .0) (outcome .1 .1 .0),
+        dimension-after (refusal cs) n L (outcome .0) (outcome .1 .1 .1 .0),
+        dimension-after (refusal cs) n L (outcome .0) (outcome .1 .1 .1 .1),
       )
