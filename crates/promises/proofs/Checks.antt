@@ -21,7 +21,7 @@ use Rattle.laws.specs.Monomial.{degree, exponent, product, divides}
 use Rattle.laws.specs.Coefficients.{coefficient}
 use Rattle.laws.specs.Dimension.{leastPower, finite, degreeBound}
 use Rattle.laws.specs.Ideal.{In, unitIn}
-use Rattle.laws.proofs.Monomial.{or-right, not-true as fails}
+use Rattle.laws.proofs.Monomial.{or-right, not-true as if-not}
 use Rattle.laws.proofs.Dimension.{finite-power}
 use Rattle.laws.proofs.Ideal.{unit-member}
 use Rattle.numbers.specs.Dimension.{noDimension}
@@ -78,6 +78,9 @@ differs a b = (λ h. eqb-false a b (not-true (eqb a b) h), λ h. ap not (ne-eqb 
 
 pub equals : (a b : ℕ) → (eqb a b ≡ true) ↔ (a ≡ b)
 equals a b = (eqb-true a b, eq-eqb a b)
+
+pub fails : (t : Bool) → (not t ≡ true) ↔ (t ≡ false)
+fails t = (not-true t, λ h. ap not h)
 
 pub either : {P Q : Type 0} (s t : Bool) → (s ≡ true) ↔ P → (t ≡ true) ↔ Q → ((s || t) ≡ true) ↔ (P ⊎ Q)
 either true t f g = (λ h. inl (f .0 refl), λ h. refl)
@@ -195,7 +198,7 @@ unit-in L = (unit-member L, λ h. there L (h .0) (h .1) (h .2))
 
 -- some variable has no pure power
 no-power : (n : ℕ) (L : List (List ℕ)) → (not (finite n L) ≡ true) ↔ ((v : ℕ) × (v < n) × (leastPower L v ≡ 0))
-no-power n L = (missing n, λ h. ap not (fails (finite n L) (λ f. finite-power n L (h .0) f (h .1) (h .2))))
+no-power n L = (missing n, λ h. ap not (if-not (finite n L) (λ f. finite-power n L (h .0) f (h .1) (h .2))))
   where
     missing : (n : ℕ) → not (finite n L) ≡ true → (v : ℕ) × (v < n) × (leastPower L v ≡ 0)
     missing zero h = absurd (false≢true h)

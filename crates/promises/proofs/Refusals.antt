@@ -7,7 +7,7 @@ use Prim.Native.Nat.{ℕ, _+_, _*_, _^_, _≤_, _<_}
 use native.Mathlib.Omega.{arith}
 use lib.Dec.{leb, ltb, eqb}
 use lib.IntN.{ℤ, pos, natAbs}
-use lib.ListN.{length}
+use lib.ListN.{length, drop}
 use contract.Lifetimes.{Lfts}
 use Rattle.laws.specs.Coefficients.{coefficient}
 use Rattle.laws.specs.Dimension.{leastPower, degreeBound, powersProduct}
@@ -16,6 +16,7 @@ use Rattle.laws.specs.Ideal.{listed, In, unitIn}
 use Rattle.laws.specs.Mask.{mask}
 use Rattle.laws.specs.Monomial.{degree, exponent, divides, product, quotient, lcm, gcd, coprime, power}
 use Rattle.laws.specs.Numerator.{numerator, update}
+use Rattle.laws.specs.Record.{idealRecord, isRecord, widthIn, countIn, exponentsIn, partOf}
 use Rattle.laws.specs.Room.{cellsAsked, coefficientsAsked, updateAsked}
 use Rattle.laws.specs.Order.{lex, degrevlex}
 use Rattle.monomials.specs.Mask.{ofWords}
@@ -51,12 +52,21 @@ use Rattle.numbers.proofs.numerator.hilbert_numerator.Reads as hilbert_numerato
 use Rattle.numbers.proofs.update.add_generators.Reads as add_generators
 use Rattle.numbers.proofs.hf_at.hf_at.Reads as hf_at
 use Rattle.numbers.proofs.dimension.quotient_dimension.Reads as quotient_dimension
+use Rattle.records.specs.Ideal.{writeChecks as writeRecordChecks, placeChecks, copyChecks}
+use Rattle.records.specs.declared.ideal.SizeAnswer.{SizeAnswer}
+use Rattle.records.specs.declared.ideal.CheckAnswer.{CheckAnswer}
+use Rattle.records.specs.declared.ideal.CopyAnswer.{CopyAnswer}
+use Rattle.records.proofs.ideal.write_record.Reads as «write_record»
+use Rattle.records.proofs.ideal.check_place.Reads as check_place
+use Rattle.records.proofs.ideal.place.Reads as place_of
+use Rattle.records.proofs.ideal.copy_record.Reads as «copy_record»
 use Rattle.bridge.specs.Told.{numberIn}
 use Rattle.bridge.specs.Monomials.{ofNumber, ofWrite, ofTest, ofOrder, ofMask}
 use Rattle.bridge.specs.Numbers.{ofSigned, ofLength, ofDimension}
+use Rattle.bridge.specs.Records.{ofSize, ofCheck, ofCopy}
 use Rattle.promises.specs.Promise.{Slice, _⨾_, First, After}
-use Rattle.promises.proofs.Checks.{Means, numberOf, list-first, early-first, above, reaches, differs, equals, either, product-above, not-divides, coefficient-beyond, unit-in, no-dimension}
-use Rattle.promises.proofs.Answers.{number-first, write-first, write-after, test-first, order-first, mask-first, length-first, length-after, signed-first, signed-number, dimension-number, dimension-after}
+use Rattle.promises.proofs.Checks.{Means, numberOf, list-first, early-first, above, reaches, differs, equals, fails, either, product-above, not-divides, coefficient-beyond, unit-in, no-dimension}
+use Rattle.promises.proofs.Answers.{number-first, write-first, write-after, test-first, order-first, mask-first, length-first, length-after, signed-first, signed-number, dimension-number, dimension-after, size-first, size-after, check-first, check-after, copy-first, copy-after}
 
 -- what checks 7 and 8 say
 rooms-means : (c k : ℕ) (room : List ℕ) (p q : List ℤ)
@@ -281,4 +291,39 @@ module _ (κs : Lfts 5) (n s : ℕ) (cells room : Slice ℕ) (first second : Sli
         dimension-after (refusal cs) n L (outcome .0) (outcome .1 .1 .0),
         dimension-after (refusal cs) n L (outcome .0) (outcome .1 .1 .1 .0),
         dimension-after (refusal cs) n L (outcome .0) (outcome .1 .1 .1 .1),
+      )
+
+-- records
+
+module _ (κs : Lfts 2) (n s : ℕ) (cells out : Slice ℕ) (r : SizeAnswer) (out′ : Slice ℕ)
+    (outcome : «write_record».Post κs (n ⨾ s ⨾ cells ⨾ out ⨾ tt) r (n ⨾ s ⨾ cells ⨾ out′ ⨾ tt)) where
+  pub write-record : let record-bytes = idealRecord n (listed n s (cells .now)) in let k = numberIn (ofSize r) in
+      First ((255 < n, 1) ∷ (60 < s, 2) ∷ (length (cells .now) ≢ s * n, 3) ∷ (length (out .now) < length record-bytes, 14) ∷ []) k
+      × After k (out′ .now) (out .now) (record-bytes ++ drop (length record-bytes) (out .now))
+  write-record =
+      let cs = writeRecordChecks 255 60 n s (cells .now) (out .now) in
+      let j = length (idealRecord n (listed n s (cells .now))) in (
+        size-first cs j (outcome .0)
+        (above 255 n, (refl, (above 60 s, (refl, (differs (length (cells .now)) (s * n), (refl, (above (length (out .now)) j, (refl, tt)))))))),
+        size-after (refusal cs) j (outcome .0) (outcome .1),
+      )
+
+-- what bytes are a record is demand 3's to say
+module _ (κs : Lfts 1) (rec : Slice ℕ) (k : ℕ) (r : CheckAnswer) (outcome : check_place.Post κs (rec ⨾ k ⨾ tt) r (rec ⨾ k ⨾ tt)) where
+  pub check-place : First ((isRecord 60 (rec .now) ≡ false, 12) ∷ (countIn (rec .now) ≤ k, 4) ∷ []) (numberIn (ofCheck r 0))
+  check-place = check-first (placeChecks 60 (rec .now) k) outcome (fails (isRecord 60 (rec .now)), (refl, (reaches (countIn (rec .now)) k, (refl, tt))))
+
+  -- the part that is handed back is empty where the check call refuses
+  pub place : (λs : Lfts 1) (part : Slice ℕ) → place_of.Post λs (rec ⨾ k ⨾ tt) part (rec ⨾ k ⨾ tt) → After (numberIn (ofCheck r 0)) (part .now) [] (partOf (rec .now) k)
+  place λs part p = check-after (refusal (placeChecks 60 (rec .now) k)) outcome p
+
+module _ (κs : Lfts 2) (rec cells : Slice ℕ) (r : CopyAnswer) (cells′ : Slice ℕ) (outcome : «copy_record».Post κs (rec ⨾ cells ⨾ tt) r (rec ⨾ cells′ ⨾ tt)) where
+  pub copy-record : let k = numberIn (ofCopy r) in let size = countIn (rec .now) * widthIn (rec .now) in
+      First ((isRecord 60 (rec .now) ≡ false, 12) ∷ (length (cells .now) < size, 14) ∷ []) k
+      × After k (cells′ .now) (cells .now) (exponentsIn (rec .now) ++ drop size (cells .now))
+  copy-record =
+      let cs = copyChecks 60 (rec .now) (cells .now) in
+      let size = countIn (rec .now) * widthIn (rec .now) in (
+        copy-first cs (widthIn (rec .now)) (countIn (rec .now)) (outcome .0) (fails (isRecord 60 (rec .now)), (refl, (above (length (cells .now)) size, (refl, tt)))),
+        copy-after (refusal cs) (widthIn (rec .now)) (countIn (rec .now)) (outcome .0) (outcome .1),
       )
