@@ -2,3 +2,4 @@
 mod Checks
 mod Answers
 pub mod Refusals
+pub mod Counts
