@@ -4,6 +4,7 @@
 --   first-holds         the number is that of the first rule that holds
 --   first-unique, first-exactly   no other number is
 --   ..-number           the number of an answer is that of what was refused
+--   passes              the first check of a call that is done
 --   by-after            what a lent slice holds after a refusal, and after none
 -- Assumes nothing.
 use mathlib.Core.Path.{_≡_, refl, sym, ap, _∙_}
@@ -107,6 +108,11 @@ number-there Coefficient e = absurd (omega arith)
 pub done-none : (o : Option Refusal) → numberOf o ≡ 0 → o ≡ none
 done-none none e = refl
 done-none (some r) e = absurd (number-there r e)
+
+-- where nothing is refused, the first check passes, and those after it refuse nothing
+pub passes : (t : Bool) (q : Refusal) (cs : List Check) → refusal ((t, q) ∷ cs) ≡ none → (t ≡ false) × (refusal cs ≡ none)
+passes true q cs e = let z : _≡_ {A = ℕ} 0 1 = cc in absurd (omega arith)
+passes false q cs e = (refl, e)
 
 -- what a lent slice holds
 

@@ -3,13 +3,18 @@
 --   a ⨾ b ⨾ tt    == the arguments of a call, in their order
 --   Rule          == a condition, and document 01's number for it
 --   First rules k == k is the number of the first rule whose condition holds, and 0 where none holds
+--   Signed64 p    == each of p is a signed word: what the type of a slice of them says
 --   After k w x y == a slice that held x holds w after a call that answered the number k: y after 0, and x, what it held, after a refusal
 -- Assumes nothing.
 use mathlib.Core.Path.{_≡_}
 use mathlib.Core.Logic.{_≢_, _⊎_}
 use mathlib.Core.List.{List, [], _∷_}
 use Prim.Native.Nat.{ℕ}
+use lib.IntN.{ℤ}
+use mir.Syntax.{w64}
+use mir.Val.{SFits}
 use denote.Ref.{RefT}
+use Rattle.laws.specs.Coefficients.{coefficient}
 
 abbrev pub Slice : Type 0 → Type 0
 Slice X = RefT (List X)
@@ -31,3 +36,6 @@ pub record First (rules : List Rule) (k : ℕ) : Type 0 where
 
 abbrev pub After : {A : Type 0} → ℕ → A → A → A → Type 0
 After k w x y = (k ≡ 0 → w ≡ y) × (k ≢ 0 → w ≡ x)
+
+abbrev pub Signed64 : List ℤ → Type 0
+Signed64 p = (k : ℕ) → SFits w64 (coefficient p k)
