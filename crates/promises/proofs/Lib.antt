@@ -3,3 +3,4 @@ mod Checks
 mod Answers
 pub mod Refusals
 pub mod Counts
+pub mod Records
