@@ -4,3 +4,4 @@ mod Answers
 pub mod Refusals
 pub mod Counts
 pub mod Records
+pub mod Determined
