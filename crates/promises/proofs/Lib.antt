@@ -5,3 +5,4 @@ pub mod Refusals
 pub mod Counts
 pub mod Records
 pub mod Determined
+pub mod Stars
