@@ -44,7 +44,7 @@ bytes-there : (o : Option Refusal) (bytes out : List ℕ) (k : ℕ) → sizeAnsw
 bytes-there none bytes out k e = let h : length bytes ≡ k = cc in (refl, h, take-at bytes (drop (length bytes) out) k h)
 bytes-there (some r) bytes out k e = let z : _≡_ {A = ℕ} 0 1 = cc in absurd (omega arith)
 
-bytes-put : (o : Option Refusal) (bytes rec out : List ℕ) → o ≡ none → bytes ≡ rec
+pub bytes-put : (o : Option Refusal) (bytes rec out : List ℕ) → o ≡ none → bytes ≡ rec
     → (sizeAnswer o (length bytes) .outcome ≡ SizeOutcome.Value (length rec)) × (take (length rec) (after o (bytes ++ drop (length bytes) out) out) ≡ rec)
 bytes-put o bytes rec out h e = rw (h, e) (refl, take-at rec (drop (length rec) out) (length rec) refl)
 
@@ -57,7 +57,7 @@ accepted n s cells out e =
     let rest = passes (not (eqb (length cells) (s * n))) Cells (drop 3 cs) (many .1) in
     (ltb-false 255 n (wide .0), ltb-false 60 s (many .0), eqb-true (length cells) (s * n) (not-false (eqb (length cells) (s * n)) (rest .0)))
 
-writes : (n s : ℕ) (cells out : List ℕ) → n ≤ 255 → s ≤ 60 → length cells ≡ s * n → length (recordOf n s cells) ≤ length out → refusal (writeChecks 255 60 n s cells out) ≡ none
+pub writes : (n s : ℕ) (cells out : List ℕ) → n ≤ 255 → s ≤ 60 → length cells ≡ s * n → length (recordOf n s cells) ≤ length out → refusal (writeChecks 255 60 n s cells out) ≡ none
 writes n s cells out a b c d =
     rw (le-ltb 255 n a, le-ltb 60 s b, eq-eqb (length cells) (s * n) c, le-ltb (length out) (length (recordOf n s cells)) d)
 

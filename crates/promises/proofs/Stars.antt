@@ -1,35 +1,45 @@
 -- The examples of document 01 that are proved: one law turns a row's test into what the row says, and the whole table is tested at once.
-use mathlib.Core.Path.{_≡_, refl, sym, ap, ap₂, _∙_}
+use mathlib.Core.Path.{_≡_, refl, sym, ap, ap₂, subst, _∙_}
 use mathlib.Core.Bool.{Bool, true, false, not, _&&_, _||_, false≢true}
 use mathlib.Core.List.{List, [], _∷_, _++_, append-assoc}
 use mathlib.Core.Option.{Option, none, some}
-use Prim.Native.Nat.{ℕ, _+_, _*_, _-_, _^_, _≤_, _<_}
+use Prim.Native.Nat.{ℕ, zero, suc, _+_, _*_, _-_, _^_, _≤_, _<_}
 use native.Mathlib.Omega.{arith}
 use lib.Dec.{leb, ltb, eqb}
 use lib.IntN.{ℤ, pos, negsuc}
-use lib.ListN.{length, take, drop, replicate}
+use lib.ListN.{length, take, drop, replicate, getD}
 use lib.Seq.{take-at}
 use borrow.Author.Tests.{leb-true, le-ltb, lt-leb, ltb-true, eqb-true, eq-eqb, not-true}
 use contract.Lifetimes.{Lfts}
+use Rattle.laws.specs.Coefficients.{first as firstOf}
+use Rattle.laws.specs.Count.{equal, HF}
 use Rattle.laws.specs.Dimension.{finite, degreeBound, powersProduct, dimension, topDegree}
+use Rattle.laws.specs.Hilbert.{hilbert, hilbertSize}
 use Rattle.laws.specs.Ideal.{listed}
 use Rattle.laws.specs.Numerator.{numerator, update}
-use Rattle.laws.specs.Room.{cellsAsked, coefficientsAsked, updateAsked}
+use Rattle.laws.specs.Record.{idealRecord}
+use Rattle.laws.specs.Room.{pairs, cellsAsked, coefficientsAsked, updateAsked}
 use Rattle.laws.proofs.Enumeration.{equal-eq}
 use Rattle.laws.proofs.Monomial.{and-left, and-right}
 use Rattle.monomials.specs.Refusal.{Check, refusal, after}
 use Rattle.monomials.specs.declared.refusal.Refusal.{Refusal}
 use Rattle.numbers.specs.Dimension.{atOnce, noDimension, dimensionIs, dimensionChecks, dimensionAnswer}
-use Rattle.numbers.specs.Wide.{value, wide}
+use Rattle.numbers.specs.Update.{beyond, updateChecks, updateAnswer, updateFirst}
+use Rattle.numbers.specs.Hilbert.{signedAnswer, hilbertChecks, hilbertAnswer}
+use Rattle.numbers.specs.Wide.{value, wide, wideOf, signedValue}
 use Rattle.numbers.specs.Numerator.{lengthAnswer, padded, numeratorChecks, numeratorAnswer, numeratorFirst}
 use Rattle.numbers.specs.declared.dimension.DimensionAnswer.{DimensionAnswer}
+use Rattle.numbers.specs.declared.hf_at.SignedAnswer.{SignedAnswer}
 use Rattle.numbers.specs.declared.numerator.LengthOutcome.{LengthOutcome}
 use Rattle.numbers.specs.declared.numerator.LengthAnswer.{LengthAnswer}
 use Rattle.numbers.proofs.numerator.hilbert_numerator.Reads as hilbert_numerator
+use Rattle.records.specs.Ideal.{writeChecks, writeAnswer, writeBytes}
+use Rattle.records.specs.declared.ideal.SizeAnswer.{SizeAnswer}
 use Rattle.bridge.specs.Told.{numberIn}
 use Rattle.bridge.specs.Numbers.{ofDimension}
 use Rattle.promises.specs.Promise.{Slice, _⨾_}
-use Rattle.promises.specs.Stars.{Row, Says, test, stars, same, sameAll, isList, hasDimension}
+use Rattle.promises.specs.Stars.{Row, Says, SaysLine, test, testLine, testAll, stars, same, sameAll, isList, hasDimension}
+use Rattle.promises.proofs.Records.{writes, bytes-put}
 use Rattle.promises.specs.Stars.Row.{coefficients, counts, dimensionOf, noDimensionOf, recordOf, sizes, updated, valueAt}
 
 same-eq : (x y : ℤ) → same x y ≡ true → x ≡ y
@@ -114,13 +124,100 @@ no-dimension-holds n s cells h κs list room first second sums r room′ first�
     ap (λ (y : DimensionAnswer). numberIn (ofDimension y)) (p .0 ∙ ap (λ (cs : List ℕ). dimensionAnswer 255 60 65536 n s cs (room .now) (first .now) (second .now) (sums .now)) e)
     ∙ dimension-refused n s cells (room .now) (first .now) (second .now) (sums .now) f g
 
-abbrev all-test : List Row → Bool
-all-test [] = true
-all-test (row ∷ rows) = test row && all-test rows
+record-holds : (n s : ℕ) (cells bytes : List ℕ) → test (recordOf n s cells bytes) ≡ true → Says (recordOf n s cells bytes)
+record-holds n s cells bytes h κs list out r out′ p e l =
+    let L : List (List ℕ) = listed n s cells in
+    let (f, g) = both (isList n s cells) (equal (idealRecord n L) bytes) h in
+    let (w, m, i) = list-fits n s cells f in
+    let written = equal-eq (idealRecord n L) bytes g in
+    let o = writes n s cells (out .now) w m i (subst (λ (z : ℕ). z ≤ length (out .now)) (sym (ap length written)) l) in
+    let (a, b) = bytes-put (refusal (writeChecks 255 60 n s cells (out .now))) (idealRecord n L) bytes (out .now) o written in (
+      ap (λ (y : SizeAnswer). y .outcome) (p .0 ∙ ap (λ (cs : List ℕ). writeAnswer 255 60 n s cs (out .now)) e) ∙ a,
+      ap (take (length bytes)) (p .1 ∙ ap (λ (cs : List ℕ). writeBytes 255 60 n s cs (out .now)) e) ∙ b,
+    )
 
-abbrev all-stars : List (List Row) → Bool
-all-stars [] = true
-all-stars (line ∷ lines) = all-test line && all-stars lines
+sizes-hold : (n s : ℕ) (cells : List ℕ) (e c k : ℕ) → test (sizes n s cells e c k) ≡ true → Says (sizes n s cells e c k)
+sizes-hold n s cells e c k h =
+    let L : List (List ℕ) = listed n s cells in
+    let (a, g) = both (eqb (pairs n L) e) (eqb (cellsAsked n L) c && eqb (coefficientsAsked L) k) h in
+    let (b, d) = both (eqb (cellsAsked n L) c) (eqb (coefficientsAsked L) k) g in
+    (eqb-true (pairs n L) e a, eqb-true (cellsAsked n L) c b, eqb-true (coefficientsAsked L) k d)
 
-table : all-stars stars ≡ true
+-- nothing is refused
+update-done : (n : ℕ) (G : List ℤ) (s0 : ℕ) (existing : List ℕ) (s1 : ℕ) (added room : List ℕ) (p q : List ℤ)
+    → n ≤ 255 → s0 + s1 ≤ 60 → length existing ≡ s0 * n → length added ≡ s1 * n → beyond (2 ^ 61) G ≡ false
+    → cellsAsked n (listed n s0 existing ++ listed n s1 added) ≤ length room
+    → updateAsked G (listed n s0 existing ++ listed n s1 added) ≤ length p
+    → updateAsked G (listed n s0 existing ++ listed n s1 added) ≤ length q
+    → refusal (updateChecks 255 60 (2 ^ 61) n G s0 existing s1 added room p q) ≡ none
+update-done n G s0 existing s1 added room p q w m i j b c k l =
+    let J : List (List ℕ) = listed n s0 existing ++ listed n s1 added in
+    rw (le-ltb 255 n w, le-ltb 60 (s0 + s1) m, eq-eqb (length existing) (s0 * n) i, eq-eqb (length added) (s1 * n) j, b, le-ltb (length room) (cellsAsked n J) c, le-ltb (length p) (updateAsked G J) k, le-ltb (length q) (updateAsked G J) l)
+
+update-holds : (n : ℕ) (G : List ℤ) (s0 : ℕ) (existing : List ℕ) (s1 : ℕ) (added : List ℕ) (N : List ℤ) → test (updated n G s0 existing s1 added N) ≡ true → Says (updated n G s0 existing s1 added N)
+update-holds n G s0 existing s1 added N h κs given old new room first second r room′ first′ second′ p eg eo en c k l =
+    let U : List ℤ = update G (listed n s0 existing) (listed n s1 added) in
+    let asked : ℕ = updateAsked G (listed n s0 existing ++ listed n s1 added) in
+    let (w, h₁) = both (leb n 255) _ h in
+    let (m, h₂) = both (leb (s0 + s1) 60) _ h₁ in
+    let (i, h₃) = both (eqb (length existing) (s0 * n)) _ h₂ in
+    let (j, h₄) = both (eqb (length added) (s1 * n)) _ h₃ in
+    let (b, f) = both (not (beyond (2 ^ 61) G)) (sameAll U N) h₄ in
+    let o = update-done n G s0 existing s1 added (room .now) (first .now) (second .now) (leb-true n 255 w) (leb-true (s0 + s1) 60 m) (eqb-true (length existing) (s0 * n) i) (eqb-true (length added) (s1 * n) j) (not-true (beyond (2 ^ 61) G) b) c k l in
+    let (x, y) = coefficients-put (refusal (updateChecks 255 60 (2 ^ 61) n G s0 existing s1 added (room .now) (first .now) (second .now))) U N (first .now) asked o (sameAll-eq U N f) in (
+      ap (λ (a : LengthAnswer). a .outcome)
+      (p .0
+      ∙ ap (λ (g : List ℤ). updateAnswer 255 60 (2 ^ 61) n g s0 (old .now) s1 (new .now) (room .now) (first .now) (second .now)) eg
+      ∙ ap₂ (λ (a b : List ℕ). updateAnswer 255 60 (2 ^ 61) n G s0 a s1 b (room .now) (first .now) (second .now)) eo en)
+      ∙ x,
+      ap (take (length N))
+      (p .1 .1 .0
+      ∙ ap (λ (g : List ℤ). updateFirst 255 60 (2 ^ 61) n g s0 (old .now) s1 (new .now) (room .now) (first .now) (second .now)) eg
+      ∙ ap₂ (λ (a b : List ℕ). updateFirst 255 60 (2 ^ 61) n G s0 a s1 b (room .now) (first .now) (second .now)) eo en)
+      ∙ y,
+    )
+
+-- nothing is refused
+value-done : (n : ℕ) (p : List ℤ) (d : ℕ) (sums : List ℕ) → n ≤ 255 → d ≤ 65536 → hilbertSize p n d < 2 ^ 127 → 4 * (d + 1) ≤ length sums → refusal (hilbertChecks 255 65536 n p d sums) ≡ none
+value-done n p d sums w m b l =
+    rw (le-ltb 255 n w, le-ltb 65536 d m, le-ltb (length sums) (4 * (d + 1)) l, lt-leb (2 ^ 127) (hilbertSize p n d) b)
+
+value-holds : (p : List ℤ) (n d : ℕ) (z : ℤ) → test (valueAt p n d z) ≡ true → Says (valueAt p n d z)
+value-holds p n d z h κs given sums r sums′ o e l =
+    let x : ℤ = hilbert p n d in
+    let (w, h₁) = both (leb n 255) _ h in
+    let (m, h₂) = both (leb d 65536) _ h₁ in
+    let (b, f) = both (ltb (hilbertSize p n d) (2 ^ 127)) (same (signedValue (wideOf x)) z) h₂ in
+    let none-refused = value-done n p d (sums .now) (leb-true n 255 w) (leb-true d 65536 m) (ltb-true (hilbertSize p n d) (2 ^ 127) b) l in (
+      wideOf x,
+      ap (λ (a : SignedAnswer). a .outcome) (o .0 ∙ ap (λ (g : List ℤ). hilbertAnswer 255 65536 n g d (sums .now)) e) ∙ ap (λ (v : Option Refusal). signedAnswer v x .outcome) none-refused,
+      same-eq (signedValue (wideOf x)) z f,
+    )
+
+-- the law: a row whose test passes holds
+holds : (row : Row) → test row ≡ true → Says row
+holds (coefficients n s cells N) h = coefficients-hold n s cells N h
+holds (counts n s cells values) h = equal-eq (firstOf (length values) (HF (listed n s cells) n)) values h
+holds (dimensionOf n s cells x) h = dimension-holds n s cells x h
+holds (noDimensionOf n s cells) h = no-dimension-holds n s cells h
+holds (recordOf n s cells bytes) h = record-holds n s cells bytes h
+holds (sizes n s cells e c k) h = sizes-hold n s cells e c k h
+holds (updated n G s0 existing s1 added N) h = update-holds n G s0 existing s1 added N h
+holds (valueAt p n d z) h = value-holds p n d z h
+
+holds-line : (line : List Row) → testLine line ≡ true → SaysLine line
+holds-line [] h = tt
+holds-line (row ∷ line) h = let (a, b) = both (test row) (testLine line) h in (holds row a, holds-line line b)
+
+holds-at : (lines : List (List Row)) → testAll lines ≡ true → (i : ℕ) → SaysLine (getD lines i [])
+holds-at [] h i = tt
+holds-at (line ∷ lines) h zero = holds-line line (both (testLine line) (testAll lines) h .0)
+holds-at (line ∷ lines) h (suc i) = holds-at lines (both (testLine line) (testAll lines) h .1) i
+
+-- the table, tested at once
+table : testAll stars ≡ true
 table = refl
+
+-- each line of it holds
+pub star : (i : ℕ) → SaysLine (getD stars i [])
+star i = holds-at stars table i

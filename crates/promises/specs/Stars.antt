@@ -1,7 +1,8 @@
 -- The examples of document 01 that are proved: each line that 01 marks with ★ is a list of rows, and a row says something of the calls.
 --   Row          == one value of an example; n, s and the cells are the list
 --   Says row     == what it says: of any outcome that the call's contract allows, where the rooms are as large as asked
---   test row     == the same, computed
+--   SaysLine line == all that a line of 01 says
+--   test row, testLine, testAll == the same, computed; one law (proofs/Stars) turns a test that passes into what the row says
 --   stars        == 01's ten lines
 -- Assumes nothing.
 use mathlib.Core.Path.{_≡_}
@@ -108,6 +109,10 @@ Says (valueAt p n d z) =
     → 4 * (d + 1) ≤ length (sums .now)
     → (w : Wide) × (r .outcome ≡ SignedOutcome.Value w) × (signedValue w ≡ z)
 
+abbrev pub SaysLine : List Row → Type 0
+SaysLine [] = Unit {0}
+SaysLine (row ∷ line) = Says row × SaysLine line
+
 -- the tests
 
 abbrev pub same : ℤ → ℤ → Bool
@@ -144,6 +149,14 @@ test (updated n G s0 existing s1 added N) =
     && (eqb (length added) (s1 * n)
     && (not (beyond (2 ^ 61) G) && sameAll (update G (listed n s0 existing) (listed n s1 added)) N))))
 test (valueAt p n d z) = leb n 255 && (leb d 65536 && (ltb (hilbertSize p n d) (2 ^ 127) && same (signedValue (wideOf (hilbert p n d))) z))
+
+abbrev pub testLine : List Row → Bool
+testLine [] = true
+testLine (row ∷ line) = test row && testLine line
+
+abbrev pub testAll : List (List Row) → Bool
+testAll [] = true
+testAll (line ∷ lines) = testLine line && testAll lines
 
 -- the table
 
