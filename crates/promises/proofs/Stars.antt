@@ -38,9 +38,56 @@ use Rattle.records.specs.declared.ideal.SizeAnswer.{SizeAnswer}
 use Rattle.bridge.specs.Told.{numberIn}
 use Rattle.bridge.specs.Numbers.{ofDimension}
 use Rattle.promises.specs.Promise.{Slice, _⨾_}
-use Rattle.promises.specs.Stars.{Row, Says, SaysLine, test, testLine, testAll, stars, same, sameAll, isList, hasDimension}
+use Rattle.promises.specs.Stars.{Row, Says, SaysLine, stars}
 use Rattle.promises.proofs.Records.{writes, bytes-put}
 use Rattle.promises.specs.Stars.Row.{coefficients, counts, dimensionOf, noDimensionOf, recordOf, sizes, updated, valueAt}
+
+-- the tests
+
+abbrev same : ℤ → ℤ → Bool
+same (pos a) (pos b) = eqb a b
+same (pos a) (negsuc b) = false
+same (negsuc a) (pos b) = false
+same (negsuc a) (negsuc b) = eqb a b
+
+abbrev sameAll : List ℤ → List ℤ → Bool
+sameAll [] [] = true
+sameAll [] (y ∷ q) = false
+sameAll (x ∷ p) [] = false
+sameAll (x ∷ p) (y ∷ q) = same x y && sameAll p q
+
+-- checks 1, 2 and 3 pass
+abbrev isList : ℕ → ℕ → List ℕ → Bool
+isList n s cells = leb n 255 && (leb s 60 && eqb (length cells) (s * n))
+
+-- checks 13 and 11 pass, where they are made
+abbrev hasDimension : ℕ → List (List ℕ) → Bool
+hasDimension n L = atOnce n L || (not (noDimension 65536 n L) && ltb (powersProduct n L) (2 ^ 127))
+
+abbrev test : Row → Bool
+test (coefficients n s cells N) = isList n s cells && sameAll (numerator (listed n s cells)) N
+test (counts n s cells values) = equal (firstOf (length values) (HF (listed n s cells) n)) values
+test (dimensionOf n s cells x) = isList n s cells && (hasDimension n (listed n s cells) && eqb (value (wide (dimension n (listed n s cells)))) x)
+test (noDimensionOf n s cells) = isList n s cells && (not (atOnce n (listed n s cells)) && noDimension 65536 n (listed n s cells))
+test (recordOf n s cells bytes) = isList n s cells && equal (idealRecord n (listed n s cells)) bytes
+test (sizes n s cells e c k) = eqb (pairs n (listed n s cells)) e && (eqb (cellsAsked n (listed n s cells)) c && eqb (coefficientsAsked (listed n s cells)) k)
+test (updated n G s0 existing s1 added N) =
+    leb n 255
+    && (leb (s0 + s1) 60
+    && (eqb (length existing) (s0 * n)
+    && (eqb (length added) (s1 * n)
+    && (not (beyond (2 ^ 61) G) && sameAll (update G (listed n s0 existing) (listed n s1 added)) N))))
+test (valueAt p n d z) = leb n 255 && (leb d 65536 && (ltb (hilbertSize p n d) (2 ^ 127) && same (signedValue (wideOf (hilbert p n d))) z))
+
+abbrev testLine : List Row → Bool
+testLine [] = true
+testLine (row ∷ line) = test row && testLine line
+
+abbrev testAll : List (List Row) → Bool
+testAll [] = true
+testAll (line ∷ lines) = testLine line && testAll lines
+
+-- what a test that passes says
 
 same-eq : (x y : ℤ) → same x y ≡ true → x ≡ y
 same-eq (pos a) (pos b) h = ap pos (eqb-true a b h)

@@ -2,28 +2,22 @@
 --   Row          == one value of an example; n, s and the cells are the list
 --   Says row     == what it says: of any outcome that the call's contract allows, where the rooms are as large as asked
 --   SaysLine line == all that a line of 01 says
---   test row, testLine, testAll == the same, computed; one law (proofs/Stars) turns a test that passes into what the row says
 --   stars        == 01's ten lines
 -- Assumes nothing.
 use mathlib.Core.Path.{_≡_}
-use mathlib.Core.Bool.{Bool, true, false, not, _&&_, _||_}
+use mathlib.Core.Bool.{false}
 use mathlib.Core.List.{List, [], _∷_, _++_}
 use Prim.Native.Nat.{ℕ, _+_, _*_, _-_, _^_, _≤_}
-use lib.Dec.{leb, ltb, eqb}
 use lib.IntN.{ℤ, pos, negsuc}
 use lib.ListN.{length, take}
 use contract.Lifetimes.{Lfts}
 use Rattle.laws.specs.Coefficients.{first}
-use Rattle.laws.specs.Count.{equal, HF}
-use Rattle.laws.specs.Dimension.{finite, degreeBound, powersProduct, dimension}
-use Rattle.laws.specs.Hilbert.{hilbert, hilbertSize}
+use Rattle.laws.specs.Count.{HF}
+use Rattle.laws.specs.Dimension.{degreeBound}
 use Rattle.laws.specs.Ideal.{listed}
-use Rattle.laws.specs.Numerator.{numerator, update}
-use Rattle.laws.specs.Record.{idealRecord}
 use Rattle.laws.specs.Room.{pairs, cellsAsked, coefficientsAsked, updateAsked}
-use Rattle.numbers.specs.Dimension.{atOnce, noDimension}
-use Rattle.numbers.specs.Update.{beyond}
-use Rattle.numbers.specs.Wide.{value, wide, wideOf, signedValue}
+use Rattle.numbers.specs.Dimension.{atOnce}
+use Rattle.numbers.specs.Wide.{value, signedValue}
 use Rattle.numbers.specs.declared.dimension.Dimension.{Dimension}
 use Rattle.numbers.specs.declared.dimension.DimensionOutcome.{DimensionOutcome}
 use Rattle.numbers.specs.declared.dimension.DimensionAnswer.{DimensionAnswer}
@@ -112,51 +106,6 @@ Says (valueAt p n d z) =
 abbrev pub SaysLine : List Row → Type 0
 SaysLine [] = Unit {0}
 SaysLine (row ∷ line) = Says row × SaysLine line
-
--- the tests
-
-abbrev pub same : ℤ → ℤ → Bool
-same (pos a) (pos b) = eqb a b
-same (pos a) (negsuc b) = false
-same (negsuc a) (pos b) = false
-same (negsuc a) (negsuc b) = eqb a b
-
-abbrev pub sameAll : List ℤ → List ℤ → Bool
-sameAll [] [] = true
-sameAll [] (y ∷ q) = false
-sameAll (x ∷ p) [] = false
-sameAll (x ∷ p) (y ∷ q) = same x y && sameAll p q
-
--- checks 1, 2 and 3 pass
-abbrev pub isList : ℕ → ℕ → List ℕ → Bool
-isList n s cells = leb n 255 && (leb s 60 && eqb (length cells) (s * n))
-
--- checks 13 and 11 pass, where they are made
-abbrev pub hasDimension : ℕ → List (List ℕ) → Bool
-hasDimension n L = atOnce n L || (not (noDimension 65536 n L) && ltb (powersProduct n L) (2 ^ 127))
-
-abbrev pub test : Row → Bool
-test (coefficients n s cells N) = isList n s cells && sameAll (numerator (listed n s cells)) N
-test (counts n s cells values) = equal (first (length values) (HF (listed n s cells) n)) values
-test (dimensionOf n s cells x) = isList n s cells && (hasDimension n (listed n s cells) && eqb (value (wide (dimension n (listed n s cells)))) x)
-test (noDimensionOf n s cells) = isList n s cells && (not (atOnce n (listed n s cells)) && noDimension 65536 n (listed n s cells))
-test (recordOf n s cells bytes) = isList n s cells && equal (idealRecord n (listed n s cells)) bytes
-test (sizes n s cells e c k) = eqb (pairs n (listed n s cells)) e && (eqb (cellsAsked n (listed n s cells)) c && eqb (coefficientsAsked (listed n s cells)) k)
-test (updated n G s0 existing s1 added N) =
-    leb n 255
-    && (leb (s0 + s1) 60
-    && (eqb (length existing) (s0 * n)
-    && (eqb (length added) (s1 * n)
-    && (not (beyond (2 ^ 61) G) && sameAll (update G (listed n s0 existing) (listed n s1 added)) N))))
-test (valueAt p n d z) = leb n 255 && (leb d 65536 && (ltb (hilbertSize p n d) (2 ^ 127) && same (signedValue (wideOf (hilbert p n d))) z))
-
-abbrev pub testLine : List Row → Bool
-testLine [] = true
-testLine (row ∷ line) = test row && testLine line
-
-abbrev pub testAll : List (List Row) → Bool
-testAll [] = true
-testAll (line ∷ lines) = testLine line && testAll lines
 
 -- the table
 
