@@ -1,5 +1,4 @@
 -- From an order of checks, which the contracts have as a list of tests, to rules in words: the first that holds decides.
---   numberOf o          == document 01's number of what was refused, 0 for nothing
 --   Means cs rs         == each test of cs passes exactly when the condition of its rule holds, and asks for the rule's number
 --   first-holds         the number is that of the first rule that holds
 --   first-unique, first-exactly   no other number is
@@ -17,7 +16,7 @@ use native.Mathlib.Omega.{arith}
 use lib.Dec.{leb, ltb, eqb}
 use borrow.Author.Tests.{ltb-true, lt-ltb, leb-true, leb-false, le-leb, lt-leb, eq-eqb, eqb-true, eqb-false, ne-eqb, not-true}
 use lib.IntN.{ℤ, natAbs}
-use lib.ListN.{length}
+use lib.ListN.{length, drop}
 use Rattle.laws.specs.Monomial.{degree, exponent, product, divides}
 use Rattle.laws.specs.Coefficients.{coefficient}
 use Rattle.laws.specs.Dimension.{leastPower, finite, degreeBound}
@@ -32,11 +31,8 @@ use Rattle.monomials.specs.Monomial.{atMost}
 use Rattle.monomials.specs.Refusal.{number, Check, refusal, after}
 use Rattle.monomials.specs.declared.refusal.Refusal.{Refusal}
 use Rattle.monomials.specs.declared.refusal.Refusal.the-variants.{Width, Count, Cells, Place, Exponent, Division, CellRoom, CoefficientRoom, SumRoom, Degree, Value, Record, Dimension, Output, Coefficient}
+use Rattle.records.specs.Host.{status}
 use Rattle.promises.specs.Promise.{Rule, Decided, First, After}
-
-abbrev pub numberOf : Option Refusal → ℕ
-numberOf none = 0
-numberOf (some r) = number r
 
 abbrev pub Means : List Check → List Rule → Type 0
 Means [] [] = Unit {0}
@@ -44,7 +40,7 @@ Means [] (r ∷ rs) = ⊥
 Means (c ∷ cs) [] = ⊥
 Means (c ∷ cs) (r ∷ rs) = ((c .0 ≡ true) ↔ (r .0)) × ((number (c .1) ≡ r .1) × Means cs rs)
 
-pub first-holds : (cs : List Check) (rs : List Rule) → Means cs rs → Decided rs (numberOf (refusal cs))
+pub first-holds : (cs : List Check) (rs : List Rule) → Means cs rs → Decided rs (status (refusal cs))
 first-holds [] [] m = refl
 first-holds [] (r ∷ rs) m = absurd m
 first-holds (c ∷ cs) [] m = absurd m
@@ -63,7 +59,7 @@ pub first-exactly : {rs : List Rule} {j : ℕ} → First rs j → (k : ℕ) → 
 first-exactly {rs} {j} p k = (λ e. rw e at p, λ q. first-unique rs j k (p .decided) (q .decided))
 
 -- the same of an answer a, which is x by its contract and has the number f a
-pub by-checks : {A : Type 0} (f : A → ℕ) {a x : A} (cs : List Check) {rs : List Rule} → a ≡ x → f x ≡ numberOf (refusal cs) → Means cs rs → First rs (f a)
+pub by-checks : {A : Type 0} (f : A → ℕ) {a x : A} (cs : List Check) {rs : List Rule} → a ≡ x → f x ≡ status (refusal cs) → Means cs rs → First rs (f a)
 by-checks f cs {rs} p e m = record { decided = rw (p, e) (first-holds cs rs m) }
 
 -- tests and conditions
@@ -82,6 +78,10 @@ equals a b = (eqb-true a b, eq-eqb a b)
 
 pub fails : (t : Bool) → (not t ≡ true) ↔ (t ≡ false)
 fails t = (not-true t, λ h. ap not h)
+
+pub twice : {P : Type 0} (t : Bool) → (t ≡ true) ↔ P → ((t || t) ≡ true) ↔ P
+twice true f = f
+twice false f = f
 
 pub either : {P Q : Type 0} (s t : Bool) → (s ≡ true) ↔ P → (t ≡ true) ↔ Q → ((s || t) ≡ true) ↔ (P ⊎ Q)
 either true t f g = (λ h. inl (f .0 refl), λ h. refl)
@@ -105,7 +105,7 @@ number-there Dimension e = absurd (omega arith)
 number-there Output e = absurd (omega arith)
 number-there Coefficient e = absurd (omega arith)
 
-pub done-none : (o : Option Refusal) → numberOf o ≡ 0 → o ≡ none
+pub done-none : (o : Option Refusal) → status o ≡ 0 → o ≡ none
 done-none none e = refl
 done-none (some r) e = absurd (number-there r e)
 
@@ -116,33 +116,31 @@ passes false q cs e = (refl, e)
 
 -- what a lent slice holds
 
-after-number : {A : Type 0} (o : Option Refusal) (x y : A) → After (numberOf o) (after o y x) x y
+after-number : {A : Type 0} (o : Option Refusal) (x y : A) → After (status o) (after o y x) x y
 after-number none x y = (λ h. refl, λ h. absurd (h refl))
 after-number (some r) x y = (λ h. absurd (number-there r h), λ h. refl)
 
 -- the same of an answer a, which is b by its contract and has the number f a
-pub by-after : {A B : Type 0} (f : B → ℕ) {a b : B} (o : Option Refusal) {w x y : A} → a ≡ b → f b ≡ numberOf o → w ≡ after o y x → After (f a) w x y
+pub by-after : {A B : Type 0} (f : B → ℕ) {a b : B} (o : Option Refusal) {w x y : A} → a ≡ b → f b ≡ status o → w ≡ after o y x → After (f a) w x y
 by-after f o {w} {x} {y} p e q = rw (q, p, e) (after-number o x y)
 
 -- answers that come before the later checks
 
--- checks cs with the rules rs in front of others
-first-append : (cs : List Check) (rs : List Rule) (ds : List Check) (qs : List Rule) → Means cs rs → Decided qs (numberOf (refusal ds)) → Decided (rs ++ qs) (numberOf (refusal (cs ++ ds)))
-first-append [] [] ds qs m f = f
-first-append [] (r ∷ rs) ds qs m f = absurd m
-first-append (c ∷ cs) [] ds qs m f = absurd m
-first-append ((true, q) ∷ cs) (r ∷ rs) ds qs m f = inl (m .0 .0 refl, m .1 .0)
-first-append ((false, q) ∷ cs) (r ∷ rs) ds qs m f = inr (λ h. false≢true (m .0 .1 h), first-append cs rs ds qs (m .1 .1) f)
+-- one check in front of others
+pub cons-first : {P : Type 0} (t : Bool) (q : Refusal) (cs : List Check) {rs : List Rule} → (t ≡ true) ↔ P → First rs (status (refusal cs)) → First ((P, number q) ∷ rs) (status (refusal ((t, q) ∷ cs)))
+cons-first true q cs f g = record { decided = inl (f .0 refl, refl) }
+cons-first false q cs f g = record { decided = inr (λ h. false≢true (f .1 h), g .decided) }
 
 -- checks 1, 2 and 3 of a list
-pub list-first : (n s : ℕ) (cells : List ℕ) (ds : List Check) {qs : List Rule} → First qs (numberOf (refusal ds))
-    → First ((255 < n, 1) ∷ (60 < s, 2) ∷ (length cells ≢ s * n, 3) ∷ qs) (numberOf (refusal (listChecks 255 60 n s cells ++ ds)))
-list-first n s cells ds {qs} f =
-    let m : Means (listChecks 255 60 n s cells) ((255 < n, 1) ∷ (60 < s, 2) ∷ (length cells ≢ s * n, 3) ∷ []) = (above 255 n, (refl, (above 60 s, (refl, (differs (length cells) (s * n), (refl, tt)))))) in
-    record { decided = first-append (listChecks 255 60 n s cells) ((255 < n, 1) ∷ (60 < s, 2) ∷ (length cells ≢ s * n, 3) ∷ []) ds qs m (f .decided) }
+pub list-first : (n s : ℕ) (cells : List ℕ) (ds : List Check) {qs : List Rule} → First qs (status (refusal ds))
+    → First ((255 < n, 1) ∷ (60 < s, 2) ∷ (length cells ≢ s * n, 3) ∷ qs) (status (refusal (listChecks 255 60 n s cells ++ ds)))
+list-first n s cells ds f =
+    cons-first (ltb 255 n) Width (drop 1 (listChecks 255 60 n s cells ++ ds)) (above 255 n)
+    (cons-first (ltb 60 s) Count (drop 2 (listChecks 255 60 n s cells ++ ds)) (above 60 s)
+    (cons-first (not (eqb (length cells) (s * n))) Cells ds (differs (length cells) (s * n)) f))
 
 -- two conditions under which nothing more is looked at
-pub early-first : {P Q : Type 0} (s t : Bool) (ds : List Check) {rs : List Rule} → (s ≡ true) ↔ P → (t ≡ true) ↔ Q → Means ds rs → First ((P, 0) ∷ (Q, 0) ∷ rs) (numberOf (refusal (cond (s || t) [] ds)))
+pub early-first : {P Q : Type 0} (s t : Bool) (ds : List Check) {rs : List Rule} → (s ≡ true) ↔ P → (t ≡ true) ↔ Q → Means ds rs → First ((P, 0) ∷ (Q, 0) ∷ rs) (status (refusal (cond (s || t) [] ds)))
 early-first true t ds f g m = record { decided = inl (f .0 refl, refl) }
 early-first false true ds f g m = record { decided = inr (λ h. false≢true (f .1 h), inl (g .0 refl, refl)) }
 early-first false false ds {rs} f g m = record { decided = inr (λ h. false≢true (f .1 h), inr (λ h. false≢true (g .1 h), first-holds ds rs m)) }

@@ -24,6 +24,7 @@ use Rattle.laws.proofs.Record.{record-same, record-length}
 use Rattle.monomials.specs.Refusal.{number, Check, refusal, after}
 use Rattle.monomials.specs.declared.refusal.Refusal.{Refusal}
 use Rattle.monomials.specs.declared.refusal.Refusal.the-variants.{Width as TooWide, Count, Cells, Place, Record, Output}
+use Rattle.records.specs.Host.{status}
 use Rattle.records.specs.Ideal.{sizeAnswer, recordOf, writeChecks, writeAnswer, writeBytes, placeChecks, copyChecks}
 use Rattle.records.specs.declared.ideal.SizeOutcome.{SizeOutcome}
 use Rattle.records.specs.declared.ideal.SizeAnswer.{SizeAnswer}
@@ -35,7 +36,7 @@ use Rattle.records.proofs.ideal.copy_record.Reads as «copy_record»
 use Rattle.bridge.specs.Told.{numberIn}
 use Rattle.bridge.specs.Records.{ofCheck, ofCopy}
 use Rattle.promises.specs.Promise.{Slice, _⨾_, Below}
-use Rattle.promises.proofs.Checks.{numberOf, passes}
+use Rattle.promises.proofs.Checks.{passes}
 use Rattle.promises.proofs.Answers.{check-number, copy-number}
 
 -- an answer with the size k: nothing was refused, and the first k bytes of the output are the record
@@ -96,7 +97,7 @@ module _ (κs λs : Lfts 2) (n s t : ℕ) (cells out cells₂ out₂ : Slice ℕ
       (record-same n (listed n s (cells .now)) (listed n t (cells₂ .now)) (one .2) (two .2) (listed-small n s (cells .now) fit) (listed-small n t (cells₂ .now) fit₂))
 
 -- the answer is 12 exactly when the first of two checks refuses
-not-twelve : (b t : Bool) (q : Refusal) → number q ≢ 12 → (numberOf (refusal ((not b, Record) ∷ (t, q) ∷ [])) ≢ 12) ↔ (b ≡ true)
+not-twelve : (b t : Bool) (q : Refusal) → number q ≢ 12 → (status (refusal ((not b, Record) ∷ (t, q) ∷ [])) ≢ 12) ↔ (b ≡ true)
 not-twelve true true q h = (λ g. refl, λ g. h)
 not-twelve true false q h = (λ g. refl, λ g e. omega arith)
 not-twelve false t q h = (λ g. absurd (g refl), λ g. absurd (false≢true g))
@@ -158,7 +159,7 @@ module _ (κs : Lfts 2) (rec exponents out : Slice ℕ) (w : SizeAnswer) (out′
       ↔ ((w .outcome ≡ SizeOutcome.Value (length (rec .now))) × (take (length (rec .now)) (out′ .now) ≡ rec .now))
   place-takes λs k c p =
       let f = not-twelve (isRecord 60 (rec .now)) (leb (countIn (rec .now)) k) Place (λ e. omega arith) in
-      let e : numberIn (ofCheck c 0) ≡ numberOf (refusal (placeChecks 60 (rec .now) k)) = ap (λ (a : CheckAnswer). numberIn (ofCheck a 0)) p ∙ check-number (refusal (placeChecks 60 (rec .now) k)) in
+      let e : numberIn (ofCheck c 0) ≡ status (refusal (placeChecks 60 (rec .now) k)) = ap (λ (a : CheckAnswer). numberIn (ofCheck a 0)) p ∙ check-number (refusal (placeChecks 60 (rec .now) k)) in
       rw e (λ h. record-again-iff .0 (f .0 h), λ h. f .1 (record-again-iff .1 h))
 
   pub copy-takes : (λs : Lfts 2) (cells : Slice ℕ) (c : CopyAnswer) (cells′ : Slice ℕ) → «copy_record».Post λs (rec ⨾ cells ⨾ tt) c (rec ⨾ cells′ ⨾ tt)
@@ -167,5 +168,5 @@ module _ (κs : Lfts 2) (rec exponents out : Slice ℕ) (w : SizeAnswer) (out′
   copy-takes λs cells c cells′ p =
       let cs = copyChecks 60 (rec .now) (cells .now) in
       let f = not-twelve (isRecord 60 (rec .now)) (ltb (length (cells .now)) (countIn (rec .now) * widthIn (rec .now))) Output (λ e. omega arith) in
-      let e : numberIn (ofCopy c) ≡ numberOf (refusal cs) = ap (λ (a : CopyAnswer). numberIn (ofCopy a)) (p .0) ∙ copy-number (refusal cs) (widthIn (rec .now)) (countIn (rec .now)) in
+      let e : numberIn (ofCopy c) ≡ status (refusal cs) = ap (λ (a : CopyAnswer). numberIn (ofCopy a)) (p .0) ∙ copy-number (refusal cs) (widthIn (rec .now)) (countIn (rec .now)) in
       rw e (λ h. record-again-iff .0 (f .0 h), λ h. f .1 (record-again-iff .1 h))

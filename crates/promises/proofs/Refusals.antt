@@ -52,6 +52,7 @@ use Rattle.numbers.proofs.numerator.hilbert_numerator.Reads as hilbert_numerato
 use Rattle.numbers.proofs.update.add_generators.Reads as add_generators
 use Rattle.numbers.proofs.hf_at.hf_at.Reads as hf_at
 use Rattle.numbers.proofs.dimension.quotient_dimension.Reads as quotient_dimension
+use Rattle.records.specs.Host.{status}
 use Rattle.records.specs.Ideal.{writeChecks as writeRecordChecks, placeChecks, copyChecks}
 use Rattle.records.specs.declared.ideal.SizeAnswer.{SizeAnswer}
 use Rattle.records.specs.declared.ideal.CheckAnswer.{CheckAnswer}
@@ -65,7 +66,7 @@ use Rattle.bridge.specs.Monomials.{ofNumber, ofWrite, ofTest, ofOrder, ofMask}
 use Rattle.bridge.specs.Numbers.{ofSigned, ofLength, ofDimension}
 use Rattle.bridge.specs.Records.{ofSize, ofCheck, ofCopy}
 use Rattle.promises.specs.Promise.{Slice, _⨾_, First, After}
-use Rattle.promises.proofs.Checks.{Means, numberOf, list-first, early-first, above, reaches, differs, equals, fails, either, product-above, not-divides, coefficient-beyond, unit-in, no-dimension}
+use Rattle.promises.proofs.Checks.{Means, list-first, early-first, above, reaches, differs, equals, fails, either, product-above, not-divides, coefficient-beyond, unit-in, no-dimension}
 use Rattle.promises.proofs.Answers.{number-first, write-first, write-after, test-first, order-first, mask-first, length-first, length-after, signed-first, signed-number, dimension-number, dimension-after, size-first, size-after, check-first, check-after, copy-first, copy-after}
 
 -- what checks 7 and 8 say
@@ -233,7 +234,7 @@ module _ (κs : Lfts 6) (n : ℕ) (given : Slice ℤ) (s0 : ℕ) (existing : Sli
 
 -- what `hf_at` leaves in the sum room, by its four checks
 sums-left : (a b c t : Bool) (w y x : List ℕ) → w ≡ after (refusal ((a, Width) ∷ (b, Degree) ∷ (c, SumRoom) ∷ [])) y x
-    → let k = numberOf (refusal ((a, Width) ∷ (b, Degree) ∷ (c, SumRoom) ∷ (t, Value) ∷ [])) in
+    → let k = status (refusal ((a, Width) ∷ (b, Degree) ∷ (c, SumRoom) ∷ (t, Value) ∷ [])) in
     ((k ≡ 0) ⊎ (k ≡ 11) → w ≡ y) × (k ≢ 0 → k ≢ 11 → w ≡ x)
 sums-left true b c t w y x e = (λ h. absurd (elim h [ inl p ↦ omega arith | inr p ↦ omega arith ]), λ h g. e)
 sums-left false true c t w y x e = (λ h. absurd (elim h [ inl p ↦ omega arith | inr p ↦ omega arith ]), λ h g. e)
@@ -252,7 +253,7 @@ module _ (κs : Lfts 2) (n : ℕ) (given : Slice ℤ) (d : ℕ) (sums : Slice �
   hf-at =
       let cs = hilbertChecks 255 65536 n (given .now) d (sums .now) in
       let k = numberIn (ofSigned r) in
-      let e : k ≡ numberOf (refusal cs) = ap (λ (a : SignedAnswer). numberIn (ofSigned a)) (outcome .0) ∙ signed-number (refusal cs) (hilbert (given .now) n d) in
+      let e : k ≡ status (refusal cs) = ap (λ (a : SignedAnswer). numberIn (ofSigned a)) (outcome .0) ∙ signed-number (refusal cs) (hilbert (given .now) n d) in
       let left = sums-left (ltb 255 n) (ltb 65536 d) (ltb (length (sums .now)) (4 * (d + 1))) (leb (2 ^ 127) (hilbertSize (given .now) n d)) (sums′ .now) (wiped 0 (4 * (d + 1)) (sums .now)) (sums .now) (outcome .1) in (
         signed-first cs (hilbert (given .now) n d) (outcome .0)
         (above 255 n, (refl, (above 65536 d, (refl, (above (length (sums .now)) (4 * (d + 1)), (refl, (reaches (2 ^ 127) (hilbertSize (given .now) n d), (refl, tt)))))))),
@@ -284,7 +285,7 @@ module _ (κs : Lfts 5) (n s : ℕ) (cells room : Slice ℕ) (first second : Sli
       let L : List (List ℕ) = listed n s (cells .now) in
       let cs = dimensionChecks 255 60 65536 n s (cells .now) (room .now) (first .now) (second .now) (sums .now) in
       let ds = boundChecks 65536 n L ++ roomChecks n L (room .now) (first .now) (second .now) (sums .now) in
-      let e : numberIn (ofDimension r) ≡ numberOf (refusal cs) = ap (λ (a : DimensionAnswer). numberIn (ofDimension a)) (outcome .0) ∙ dimension-number (refusal cs) n L in (
+      let e : numberIn (ofDimension r) ≡ status (refusal cs) = ap (λ (a : DimensionAnswer). numberIn (ofDimension a)) (outcome .0) ∙ dimension-number (refusal cs) n L in (
         rw e (list-first n s (cells .now) (cond (atOnce n L) [] ds) (early-first (unitIn L) (eqb n 0) ds (unit-in L) (equals n 0)
         (no-dimension 65536 n L, (refl, (reaches (2 ^ 127) (powersProduct n L), (refl, (above (length (room .now)) (cellsAsked n L), (refl, (either (ltb (length (first .now)) (coefficientsAsked L)) (ltb (length (second .now)) (coefficientsAsked L)) (above (length (first .now)) (coefficientsAsked L)) (above (length (second .now)) (coefficientsAsked L)), (refl, (above (length (sums .now)) (2 * (degreeBound n L + 1)), (refl, tt)))))))))))),
         dimension-after (refusal cs) n L (outcome .0) (outcome .1 .0),
