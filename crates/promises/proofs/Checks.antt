@@ -58,6 +58,10 @@ first-unique (r ∷ rs) j k (inr p) (inr q) = first-unique rs j k (p .1) (q .1)
 pub first-exactly : {rs : List Rule} {j : ℕ} → First rs j → (k : ℕ) → (j ≡ k) ↔ First rs k
 first-exactly {rs} {j} p k = (λ e. rw e at p, λ q. first-unique rs j k (p .decided) (q .decided))
 
+-- 2, where check 1 passes and check 2 does not
+pub too-many : {n s k : ℕ} {rs : List Rule} → First ((255 < n, 1) ∷ (60 < s, 2) ∷ rs) k → n ≤ 255 → 60 < s → k ≡ 2
+too-many f w m = first-exactly f 2 .1 (record { decided = inr (λ h. omega arith, inl (m, refl)) })
+
 -- the same of an answer a, which is x by its contract and has the number f a
 pub by-checks : {A : Type 0} (f : A → ℕ) {a x : A} (cs : List Check) {rs : List Rule} → a ≡ x → f x ≡ status (refusal cs) → Means cs rs → First rs (f a)
 by-checks f cs {rs} p e m = record { decided = rw (p, e) (first-holds cs rs m) }

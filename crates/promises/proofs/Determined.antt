@@ -62,6 +62,8 @@ pub use Rattle.records.proofs.DeterminedRecords.{
   place-determined as records-ideal-place,
   copy-record-determined as records-ideal-copy-record,
   write-answer-determined as records-answer-write-answer,
+  answer-record-determined as records-host-answer-record,
+  purlthicket-dim-determined as records-host-purlthicket-dim,
 }
 
 -- the calls for C and Rust

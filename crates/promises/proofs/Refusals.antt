@@ -5,25 +5,26 @@ use mathlib.Core.Bool.{Bool, true, false, not, cond}
 use mathlib.Core.List.{List, [], _∷_, _++_}
 use Prim.Native.Nat.{ℕ, _+_, _*_, _^_, _≤_, _<_}
 use native.Mathlib.Omega.{arith}
-use lib.Dec.{leb, ltb, eqb}
+use lib.Dec.{leb, ltb, eqb, lit<, lit≤}
 use lib.IntN.{ℤ, pos, natAbs}
 use lib.ListN.{length, drop}
+use borrow.Author.Tests.{lt-ltb, le-ltb}
 use contract.Lifetimes.{Lfts}
 use Rattle.laws.specs.Coefficients.{coefficient}
-use Rattle.laws.specs.Dimension.{leastPower, degreeBound, powersProduct}
+use Rattle.laws.specs.Dimension.{leastPower, degreeBound, powersProduct, dimension, topDegree}
 use Rattle.laws.specs.Hilbert.{hilbert, hilbertSize}
 use Rattle.laws.specs.Ideal.{listed, In, unitIn}
 use Rattle.laws.specs.Mask.{mask}
 use Rattle.laws.specs.Monomial.{degree, exponent, divides, product, quotient, lcm, gcd, coprime, power}
 use Rattle.laws.specs.Numerator.{numerator, update}
-use Rattle.laws.specs.Record.{idealRecord, isRecord, widthIn, countIn, exponentsIn, partOf}
+use Rattle.laws.specs.Record.{idealRecord, isRecord, widthIn, countIn, exponentsIn, listIn, partOf}
 use Rattle.laws.specs.Room.{cellsAsked, coefficientsAsked, updateAsked}
 use Rattle.laws.specs.Order.{lex, degrevlex}
 use Rattle.monomials.specs.Mask.{ofWords}
 use Rattle.monomials.specs.Monomial.{atMost, pairChecks, writeChecks, powerChecks, productChecks, quotientChecks}
 use Rattle.monomials.specs.Refusal.{number, refusal, after, tooWide}
 use Rattle.monomials.specs.declared.refusal.Refusal.{Refusal}
-use Rattle.monomials.specs.declared.refusal.Refusal.the-variants.{Width, Place, Exponent, Division, SumRoom, Degree, Value}
+use Rattle.monomials.specs.declared.refusal.Refusal.the-variants.{Width, Place, Exponent, Division, SumRoom, Degree, Value, Record, Output}
 use Rattle.monomials.specs.declared.divmask.MaskAnswer.{MaskAnswer}
 use Rattle.monomials.specs.declared.monomial.NumberAnswer.{NumberAnswer}
 use Rattle.monomials.specs.declared.monomial.WriteAnswer.{WriteAnswer}
@@ -43,16 +44,19 @@ use Rattle.monomials.proofs.monomial.cmp_degrevlex.Reads as cmp_degrevlex
 use Rattle.monomials.proofs.divmask.mask.Reads as mask_of
 use Rattle.numbers.specs.Dimension.{atOnce, boundChecks, roomChecks, dimensionChecks}
 use Rattle.numbers.specs.Hilbert.{hilbertChecks}
+use Rattle.numbers.specs.Wide.{value}
 use Rattle.numbers.specs.Numerator.{wiped, padded, listChecks, cellRoom, coefficientRooms, numeratorChecks}
 use Rattle.numbers.specs.Update.{updateChecks}
 use Rattle.numbers.specs.declared.dimension.DimensionAnswer.{DimensionAnswer}
 use Rattle.numbers.specs.declared.hf_at.SignedAnswer.{SignedAnswer}
 use Rattle.numbers.specs.declared.numerator.LengthAnswer.{LengthAnswer}
+use Rattle.numbers.specs.declared.wide.Wide.{Wide}
 use Rattle.numbers.proofs.numerator.hilbert_numerator.Reads as hilbert_numerator
 use Rattle.numbers.proofs.update.add_generators.Reads as add_generators
 use Rattle.numbers.proofs.hf_at.hf_at.Reads as hf_at
 use Rattle.numbers.proofs.dimension.quotient_dimension.Reads as quotient_dimension
-use Rattle.records.specs.Host.{status}
+use Rattle.records.specs.Answer.{answerChecks, answerOf, answerBytes}
+use Rattle.records.specs.Host.{ownCells, ownCoefficients, ownWords, recordChecks, hostChecks, status}
 use Rattle.records.specs.Ideal.{writeChecks as writeRecordChecks, placeChecks, copyChecks}
 use Rattle.records.specs.declared.ideal.SizeAnswer.{SizeAnswer}
 use Rattle.records.specs.declared.ideal.CheckAnswer.{CheckAnswer}
@@ -61,13 +65,16 @@ use Rattle.records.proofs.ideal.write_record.Reads as «write_record»
 use Rattle.records.proofs.ideal.check_place.Reads as check_place
 use Rattle.records.proofs.ideal.place.Reads as place_of
 use Rattle.records.proofs.ideal.copy_record.Reads as «copy_record»
+use Rattle.records.proofs.answer.write_answer.Reads as write_answer
+use Rattle.records.proofs.host.answer_record.Reads as «answer_record»
+use Rattle.records.proofs.host.purlthicket_dim.Reads as purlthicket_dim
 use Rattle.bridge.specs.Told.{numberIn}
 use Rattle.bridge.specs.Monomials.{ofNumber, ofWrite, ofTest, ofOrder, ofMask}
 use Rattle.bridge.specs.Numbers.{ofSigned, ofLength, ofDimension}
 use Rattle.bridge.specs.Records.{ofSize, ofCheck, ofCopy}
-use Rattle.promises.specs.Promise.{Slice, _⨾_, First, After}
-use Rattle.promises.proofs.Checks.{Means, list-first, early-first, above, reaches, differs, equals, fails, either, product-above, not-divides, coefficient-beyond, unit-in, no-dimension}
-use Rattle.promises.proofs.Answers.{number-first, write-first, write-after, test-first, order-first, mask-first, length-first, length-after, signed-first, signed-number, dimension-number, dimension-after, size-first, size-after, check-first, check-after, copy-first, copy-after}
+use Rattle.promises.specs.Promise.{Slice, _⨾_, Rule, First, After}
+use Rattle.promises.proofs.Checks.{Means, too-many, cons-first, list-first, early-first, above, reaches, differs, equals, fails, twice, either, product-above, not-divides, coefficient-beyond, unit-in, no-dimension}
+use Rattle.promises.proofs.Answers.{number-first, write-first, write-after, test-first, order-first, mask-first, length-first, length-after, signed-first, signed-number, dimension-number, dimension-after, size-first, size-after, check-number, check-first, check-after, copy-first, copy-after}
 
 -- what checks 7 and 8 say
 rooms-means : (c k : ℕ) (room : List ℕ) (p q : List ℤ)
@@ -328,3 +335,86 @@ module _ (κs : Lfts 2) (rec cells : Slice ℕ) (r : CopyAnswer) (cells′ : Sli
         copy-first cs (widthIn (rec .now)) (countIn (rec .now)) (outcome .0) (fails (isRecord 60 (rec .now)), (refl, (above (length (cells .now)) size, (refl, tt)))),
         copy-after (refusal cs) (widthIn (rec .now)) (countIn (rec .now)) (outcome .0) (outcome .1),
       )
+
+module _ (κs : Lfts 1) (code : ℕ) (x : Wide) (top : ℕ) (out : Slice ℕ) (r : CheckAnswer) (out′ : Slice ℕ)
+    (outcome : write_answer.Post κs (code ⨾ x ⨾ top ⨾ out ⨾ tt) r (code ⨾ x ⨾ top ⨾ out′ ⨾ tt)) where
+  pub write-answer : let k = numberIn (ofCheck r 0) in
+      First ((length (out .now) < 26, 14) ∷ []) k
+      × After k (out′ .now) (out .now) (answerOf code (value x) top ++ drop 26 (out .now))
+  write-answer =
+      let cs = answerChecks 26 (out .now) in
+      (check-first cs (outcome .0) (above (length (out .now)) 26, (refl, tt)), check-after (refusal cs) (outcome .0) (outcome .1))
+
+-- the host and the program `dim`: 14, 12, then the dimension's checks in the call's own rooms
+abbrev pub hostRules : List ℕ → List ℕ → List Rule
+hostRules rec out =
+    let n = widthIn rec in
+    let L = listIn rec in
+    (length out < 26, 14)
+    ∷ (isRecord 60 rec ≡ false, 12)
+    ∷ (255 < n, 1)
+    ∷ (60 < countIn rec, 2)
+    ∷ (length (exponentsIn rec) ≢ countIn rec * n, 3)
+    ∷ ((m : List ℕ) × In m L × (degree m ≡ 0), 0)
+    ∷ (n ≡ 0, 0)
+    ∷ (((v : ℕ) × (v < n) × (leastPower L v ≡ 0)) ⊎ (65536 < degreeBound n L), 13)
+    ∷ (2 ^ 127 ≤ powersProduct n L, 11)
+    ∷ (16384 < cellsAsked n L, 7)
+    ∷ (4096 < coefficientsAsked L, 8)
+    ∷ (4096 < 2 * (degreeBound n L + 1), 9)
+    ∷ []
+
+host-first : (rec out : List ℕ) → First (hostRules rec out) (status (refusal (hostChecks 255 60 65536 26 rec out)))
+host-first rec out =
+    let n = widthIn rec in
+    let L = listIn rec in
+    let ds = boundChecks 65536 n L ++ roomChecks n L ownCells ownCoefficients ownCoefficients ownWords in
+    cons-first (ltb (length out) 26) Output (drop 1 (hostChecks 255 60 65536 26 rec out)) (above (length out) 26)
+    (cons-first (not (isRecord 60 rec)) Record (recordChecks 255 60 65536 rec) (fails (isRecord 60 rec))
+    (list-first n (countIn rec) (exponentsIn rec) (cond (atOnce n L) [] ds) (early-first (unitIn L) (eqb n 0) ds (unit-in L) (equals n 0)
+    (no-dimension 65536 n L, (refl, (reaches (2 ^ 127) (powersProduct n L), (refl, (above 16384 (cellsAsked n L), (refl, (twice (ltb 4096 (coefficientsAsked L)) (above 4096 (coefficientsAsked L)), (refl, (above 4096 (2 * (degreeBound n L + 1)), (refl, tt)))))))))))))
+
+-- the second exception: after any refusal but 14 the answer record carries it, with both numbers 0
+module _ (rec out out′ : List ℕ) (k : ℕ) (e : out′ ≡ answerBytes 26 k (dimension (widthIn rec) (listIn rec)) (topDegree (widthIn rec) (listIn rec)) out) where
+  host-kept : length out < 26 → out′ ≡ out
+  host-kept h = e ∙ rw (lt-ltb (length out) 26 h)
+
+  host-written : 26 ≤ length out → out′ ≡ answerOf k (dimension (widthIn rec) (listIn rec)) (topDegree (widthIn rec) (listIn rec)) ++ drop 26 out
+  host-written h = e ∙ ap (λ (t : Bool). after (refusal ((t, Output) ∷ [])) (answerOf k (dimension (widthIn rec) (listIn rec)) (topDegree (widthIn rec) (listIn rec)) ++ drop 26 out) out) (le-ltb (length out) 26 h)
+
+module _ (κs : Lfts 2) (rec out : Slice ℕ) (r : CheckAnswer) (out′ : Slice ℕ) (outcome : «answer_record».Post κs (rec ⨾ out ⨾ tt) r (rec ⨾ out′ ⨾ tt)) where
+  pub answer-record : let n = widthIn (rec .now) in let L = listIn (rec .now) in let k = numberIn (ofCheck r 0) in
+      First (hostRules (rec .now) (out .now)) k
+      × (length (out .now) < 26 → out′ .now ≡ out .now)
+      × (26 ≤ length (out .now) → out′ .now ≡ answerOf k (dimension n L) (topDegree n L) ++ drop 26 (out .now))
+  answer-record =
+      let cs = hostChecks 255 60 65536 26 (rec .now) (out .now) in
+      let e : numberIn (ofCheck r 0) ≡ status (refusal cs) = ap (λ (a : CheckAnswer). numberIn (ofCheck a 0)) (outcome .0) ∙ check-number (refusal cs) in
+      rw e (host-first (rec .now) (out .now), host-kept (rec .now) (out .now) (out′ .now) (status (refusal cs)) (outcome .1), host-written (rec .now) (out .now) (out′ .now) (status (refusal cs)) (outcome .1))
+
+module _ (κs : Lfts 2) (rec out : Slice ℕ) (r : ℕ) (out′ : Slice ℕ) (outcome : purlthicket_dim.Post κs (rec ⨾ out ⨾ tt) r (rec ⨾ out′ ⨾ tt)) where
+  pub purlthicket-dim : let n = widthIn (rec .now) in let L = listIn (rec .now) in
+      First (hostRules (rec .now) (out .now)) r
+      × (length (out .now) < 26 → out′ .now ≡ out .now)
+      × (26 ≤ length (out .now) → out′ .now ≡ answerOf r (dimension n L) (topDegree n L) ++ drop 26 (out .now))
+  purlthicket-dim =
+      let k = status (refusal (hostChecks 255 60 65536 26 (rec .now) (out .now))) in
+      rw (outcome .0) (host-first (rec .now) (out .now), host-kept (rec .now) (out .now) (out′ .now) k (outcome .1), host-written (rec .now) (out .now) (out′ .now) k (outcome .1))
+
+-- no product is formed that could wrap: s = 2^63 with n = 2 is 2, whatever the cells, and so are 2^63 existing and 2^63 new monomials
+
+pub numerator-too-many : (κs : Lfts 4) (cells room : Slice ℕ) (p q : Slice ℤ) (r : LengthAnswer) (room′ : Slice ℕ) (p′ q′ : Slice ℤ)
+    → hilbert_numerator.Post κs (2 ⨾ 2 ^ 63 ⨾ cells ⨾ room ⨾ p ⨾ q ⨾ tt) r (2 ⨾ 2 ^ 63 ⨾ cells ⨾ room′ ⨾ p′ ⨾ q′ ⨾ tt) → numberIn (ofLength r) ≡ 2
+numerator-too-many κs cells room p q r room′ p′ q′ o = too-many (hilbert-numerator κs 2 (2 ^ 63) cells room p q r room′ p′ q′ o .0) (lit≤ tt) (lit< tt)
+
+pub update-too-many : (κs : Lfts 6) (given : Slice ℤ) (old new room : Slice ℕ) (p q : Slice ℤ) (r : LengthAnswer) (room′ : Slice ℕ) (p′ q′ : Slice ℤ)
+    → add_generators.Post κs (2 ⨾ given ⨾ 2 ^ 63 ⨾ old ⨾ 2 ^ 63 ⨾ new ⨾ room ⨾ p ⨾ q ⨾ tt) r (2 ⨾ given ⨾ 2 ^ 63 ⨾ old ⨾ 2 ^ 63 ⨾ new ⨾ room′ ⨾ p′ ⨾ q′ ⨾ tt) → numberIn (ofLength r) ≡ 2
+update-too-many κs given old new room p q r room′ p′ q′ o = too-many (add-generators κs 2 given (2 ^ 63) old (2 ^ 63) new room p q r room′ p′ q′ o .0) (lit≤ tt) (lit< tt)
+
+pub dimension-too-many : (κs : Lfts 5) (cells room : Slice ℕ) (p q : Slice ℤ) (sums : Slice ℕ) (r : DimensionAnswer) (room′ : Slice ℕ) (p′ q′ : Slice ℤ) (sums′ : Slice ℕ)
+    → quotient_dimension.Post κs (2 ⨾ 2 ^ 63 ⨾ cells ⨾ room ⨾ p ⨾ q ⨾ sums ⨾ tt) r (2 ⨾ 2 ^ 63 ⨾ cells ⨾ room′ ⨾ p′ ⨾ q′ ⨾ sums′ ⨾ tt) → numberIn (ofDimension r) ≡ 2
+dimension-too-many κs cells room p q sums r room′ p′ q′ sums′ o = too-many (quotient-dimension κs 2 (2 ^ 63) cells room p q sums r room′ p′ q′ sums′ o .0) (lit≤ tt) (lit< tt)
+
+pub record-too-many : (κs : Lfts 2) (cells out : Slice ℕ) (r : SizeAnswer) (out′ : Slice ℕ)
+    → «write_record».Post κs (2 ⨾ 2 ^ 63 ⨾ cells ⨾ out ⨾ tt) r (2 ⨾ 2 ^ 63 ⨾ cells ⨾ out′ ⨾ tt) → numberIn (ofSize r) ≡ 2
+record-too-many κs cells out r out′ o = too-many (write-record κs 2 (2 ^ 63) cells out r out′ o .0) (lit≤ tt) (lit< tt)
