@@ -17,12 +17,13 @@ use Rattle.laws.specs.Dimension.{finite, degreeBound, powersProduct, dimension,
 use Rattle.laws.specs.Hilbert.{hilbert, hilbertSize}
 use Rattle.laws.specs.Ideal.{listed}
 use Rattle.laws.specs.Numerator.{numerator, update}
-use Rattle.laws.specs.Record.{idealRecord}
+use Rattle.laws.specs.Record.{idealRecord, widthIn, listIn}
 use Rattle.laws.specs.Room.{pairs, cellsAsked, coefficientsAsked, updateAsked}
 use Rattle.laws.proofs.Enumeration.{equal-eq}
 use Rattle.laws.proofs.Monomial.{and-left, and-right}
 use Rattle.monomials.specs.Refusal.{Check, refusal, after}
 use Rattle.monomials.specs.declared.refusal.Refusal.{Refusal}
+use Rattle.monomials.specs.declared.refusal.Refusal.the-variants.{Output}
 use Rattle.numbers.specs.Dimension.{atOnce, noDimension, dimensionIs, dimensionChecks, dimensionAnswer}
 use Rattle.numbers.specs.Update.{beyond, updateChecks, updateAnswer, updateFirst}
 use Rattle.numbers.specs.Hilbert.{signedAnswer, hilbertChecks, hilbertAnswer}
@@ -33,14 +34,18 @@ use Rattle.numbers.specs.declared.hf_at.SignedAnswer.{SignedAnswer}
 use Rattle.numbers.specs.declared.numerator.LengthOutcome.{LengthOutcome}
 use Rattle.numbers.specs.declared.numerator.LengthAnswer.{LengthAnswer}
 use Rattle.numbers.proofs.numerator.hilbert_numerator.Reads as hilbert_numerator
-use Rattle.records.specs.Ideal.{writeChecks, writeAnswer, writeBytes}
+use Rattle.records.specs.Answer.{answerOf as answerBytesOf}
+use Rattle.records.specs.Host.{recordChecks, hostChecks, hostNumber, status}
+use Rattle.records.specs.Ideal.{notRecord, writeChecks, writeAnswer, writeBytes}
 use Rattle.records.specs.declared.ideal.SizeAnswer.{SizeAnswer}
+use Rattle.records.proofs.host.purlthicket_dim.Reads as purlthicket_dim
 use Rattle.bridge.specs.Told.{numberIn}
 use Rattle.bridge.specs.Numbers.{ofDimension}
 use Rattle.promises.specs.Promise.{Slice, _⨾_}
 use Rattle.promises.specs.Stars.{Row, Says, SaysLine, stars}
+use Rattle.promises.proofs.Refusals.{purlthicket-dim}
 use Rattle.promises.proofs.Records.{writes, bytes-put}
-use Rattle.promises.specs.Stars.Row.{coefficients, counts, dimensionOf, noDimensionOf, recordOf, sizes, updated, valueAt}
+use Rattle.promises.specs.Stars.Row.{coefficients, counts, dimensionOf, noDimensionOf, recordOf, answerOf, sizes, updated, valueAt}
 
 -- the tests
 
@@ -56,6 +61,10 @@ sameAll [] (y ∷ q) = false
 sameAll (x ∷ p) [] = false
 sameAll (x ∷ p) (y ∷ q) = same x y && sameAll p q
 
+-- the number of the host's checks after 14
+abbrev recordStatus : List ℕ → ℕ
+recordStatus rec = status (refusal (notRecord 60 rec ∷ recordChecks 255 60 65536 rec))
+
 -- checks 1, 2 and 3 pass
 abbrev isList : ℕ → ℕ → List ℕ → Bool
 isList n s cells = leb n 255 && (leb s 60 && eqb (length cells) (s * n))
@@ -64,12 +73,17 @@ isList n s cells = leb n 255 && (leb s 60 && eqb (length cells) (s * n))
 abbrev hasDimension : ℕ → List (List ℕ) → Bool
 hasDimension n L = atOnce n L || (not (noDimension 65536 n L) && ltb (powersProduct n L) (2 ^ 127))
 
+-- the checks of the host that come after 14 pass
+abbrev answerTest : List ℕ → List ℕ → Bool
+answerTest rec bytes = eqb (recordStatus rec) 0 && (eqb (length bytes) 26 && equal (answerBytesOf 0 (dimension (widthIn rec) (listIn rec)) (topDegree (widthIn rec) (listIn rec))) bytes)
+
 abbrev test : Row → Bool
 test (coefficients n s cells N) = isList n s cells && sameAll (numerator (listed n s cells)) N
 test (counts n s cells values) = equal (firstOf (length values) (HF (listed n s cells) n)) values
 test (dimensionOf n s cells x) = isList n s cells && (hasDimension n (listed n s cells) && eqb (value (wide (dimension n (listed n s cells)))) x)
 test (noDimensionOf n s cells) = isList n s cells && (not (atOnce n (listed n s cells)) && noDimension 65536 n (listed n s cells))
 test (recordOf n s cells bytes) = isList n s cells && equal (idealRecord n (listed n s cells)) bytes
+test (answerOf n s cells bytes) = answerTest (idealRecord n (listed n s cells)) bytes
 test (sizes n s cells e c k) = eqb (pairs n (listed n s cells)) e && (eqb (cellsAsked n (listed n s cells)) c && eqb (coefficientsAsked (listed n s cells)) k)
 test (updated n G s0 existing s1 added N) =
     leb n 255
@@ -183,6 +197,24 @@ record-holds n s cells bytes h κs list out r out′ p e l =
       ap (take (length bytes)) (p .1 ∙ ap (λ (cs : List ℕ). writeBytes 255 60 n s cs (out .now)) e) ∙ b,
     )
 
+answer-holds : (rec bytes : List ℕ) → answerTest rec bytes ≡ true → (κs : Lfts 2) (given out : Slice ℕ) (r : ℕ) (out′ : Slice ℕ)
+    → purlthicket_dim.Post κs (given ⨾ out ⨾ tt) r (given ⨾ out′ ⨾ tt) → given .now ≡ rec → 26 ≤ length (out .now) → (r ≡ 0) × (take 26 (out′ .now) ≡ bytes)
+answer-holds rec bytes h κs given out r out′ p e l =
+    let said = answerBytesOf 0 (dimension (widthIn rec) (listIn rec)) (topDegree (widthIn rec) (listIn rec)) in
+    let (a, g) = both (eqb (recordStatus rec) 0) (eqb (length bytes) 26 && equal said bytes) h in
+    let (b, c) = both (eqb (length bytes) 26) (equal said bytes) g in
+    let done : r ≡ 0 =
+        p .0
+        ∙ ap (λ (bs : List ℕ). hostNumber 255 60 65536 26 bs (out .now)) e
+        ∙ ap (λ (t : Bool). status (refusal ((t, Output) ∷ drop 1 (hostChecks 255 60 65536 26 rec (out .now))))) (le-ltb (length (out .now)) 26 l)
+        ∙ eqb-true (recordStatus rec) 0 a in
+    let whole = purlthicket-dim κs given out r out′ p .2 l in
+    (
+      done,
+      ap (take 26) (whole ∙ ap₂ (λ (k : ℕ) (bs : List ℕ). answerBytesOf k (dimension (widthIn bs) (listIn bs)) (topDegree (widthIn bs) (listIn bs)) ++ drop 26 (out .now)) done e ∙ ap (λ (bs : List ℕ). bs ++ drop 26 (out .now)) (equal-eq said bytes c))
+      ∙ take-at bytes (drop 26 (out .now)) 26 (eqb-true (length bytes) 26 b),
+    )
+
 sizes-hold : (n s : ℕ) (cells : List ℕ) (e c k : ℕ) → test (sizes n s cells e c k) ≡ true → Says (sizes n s cells e c k)
 sizes-hold n s cells e c k h =
     let L : List (List ℕ) = listed n s cells in
@@ -248,6 +280,7 @@ holds (counts n s cells values) h = equal-eq (firstOf (length values) (HF (liste
 holds (dimensionOf n s cells x) h = dimension-holds n s cells x h
 holds (noDimensionOf n s cells) h = no-dimension-holds n s cells h
 holds (recordOf n s cells bytes) h = record-holds n s cells bytes h
+holds (answerOf n s cells bytes) h = answer-holds (idealRecord n (listed n s cells)) bytes h
 holds (sizes n s cells e c k) h = sizes-hold n s cells e c k h
 holds (updated n G s0 existing s1 added N) h = update-holds n G s0 existing s1 added N h
 holds (valueAt p n d z) h = value-holds p n d z h

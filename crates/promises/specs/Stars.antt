@@ -15,6 +15,7 @@ use Rattle.laws.specs.Coefficients.{first}
 use Rattle.laws.specs.Count.{HF}
 use Rattle.laws.specs.Dimension.{degreeBound}
 use Rattle.laws.specs.Ideal.{listed}
+use Rattle.laws.specs.Record.{idealRecord}
 use Rattle.laws.specs.Room.{pairs, cellsAsked, coefficientsAsked, updateAsked}
 use Rattle.numbers.specs.Dimension.{atOnce}
 use Rattle.numbers.specs.Wide.{value, signedValue}
@@ -33,6 +34,7 @@ use Rattle.numbers.proofs.update.add_generators.Reads as add_generators
 use Rattle.records.specs.declared.ideal.SizeOutcome.{SizeOutcome}
 use Rattle.records.specs.declared.ideal.SizeAnswer.{SizeAnswer}
 use Rattle.records.proofs.ideal.write_record.Reads as «write_record»
+use Rattle.records.proofs.host.purlthicket_dim.Reads as purlthicket_dim
 use Rattle.bridge.specs.Told.{numberIn}
 use Rattle.bridge.specs.Numbers.{ofDimension}
 use Rattle.promises.specs.Promise.{Slice, _⨾_}
@@ -47,6 +49,8 @@ pub data Row : Type 0 where
   noDimensionOf : (n s : ℕ) (cells : List ℕ) → Row
   -- the ideal record
   recordOf : (n s : ℕ) (cells : List ℕ) (bytes : List ℕ) → Row
+  -- the answer record that the host is given for the list's ideal record
+  answerOf : (n s : ℕ) (cells : List ℕ) (bytes : List ℕ) → Row
   -- e, the cells and the coefficients asked
   sizes : (n s : ℕ) (cells : List ℕ) (e c k : ℕ) → Row
   -- given coefficients, an existing and a new list: the updated coefficients
@@ -85,6 +89,12 @@ Says (recordOf n s cells bytes) =
     → list .now ≡ cells
     → length bytes ≤ length (out .now)
     → (r .outcome ≡ SizeOutcome.Value (length bytes)) × (take (length bytes) (out′ .now) ≡ bytes)
+Says (answerOf n s cells bytes) =
+    (κs : Lfts 2) (rec out : Slice ℕ) (r : ℕ) (out′ : Slice ℕ)
+    → purlthicket_dim.Post κs (rec ⨾ out ⨾ tt) r (rec ⨾ out′ ⨾ tt)
+    → rec .now ≡ idealRecord n (listed n s cells)
+    → 26 ≤ length (out .now)
+    → (r ≡ 0) × (take 26 (out′ .now) ≡ bytes)
 Says (sizes n s cells e c k) = (pairs n (listed n s cells) ≡ e) × (cellsAsked n (listed n s cells) ≡ c) × (coefficientsAsked (listed n s cells) ≡ k)
 Says (updated n G s0 existing s1 added N) =
     (κs : Lfts 6) (given : Slice ℤ) (old new room : Slice ℕ) (first second : Slice ℤ) (r : LengthAnswer) (room′ : Slice ℕ) (first′ second′ : Slice ℤ)
@@ -120,12 +130,13 @@ stars =
     -- n=0, one unit: []; dimension 0; record 01 00000002 00 01
     ∷ (coefficients 0 1 [] [] ∷ dimensionOf 0 1 [] 0 ∷ recordOf 0 1 [] (1 ∷ 0 ∷ 0 ∷ 0 ∷ 2 ∷ 0 ∷ 1 ∷ []) ∷ [])
     -- n=2, (2,0)(1,1)(0,2): [1,0,−3,2]; HF 1, 2, 0; dimension 3; e=4, 42 cells, 5 coefficients;
-    -- record 01 0000000E 02 03 0002 0000 0001 0001 0000 0002
+    -- record 01 0000000E 02 03 0002 0000 0001 0001 0000 0002; answer record 01 00000015 00, fifteen 00, 03, 00000002
     ∷ (coefficients 2 3 (2 ∷ 0 ∷ 1 ∷ 1 ∷ 0 ∷ 2 ∷ []) (pos 1 ∷ pos 0 ∷ negsuc 2 ∷ pos 2 ∷ [])
     ∷ counts 2 3 (2 ∷ 0 ∷ 1 ∷ 1 ∷ 0 ∷ 2 ∷ []) (1 ∷ 2 ∷ 0 ∷ [])
     ∷ dimensionOf 2 3 (2 ∷ 0 ∷ 1 ∷ 1 ∷ 0 ∷ 2 ∷ []) 3
     ∷ sizes 2 3 (2 ∷ 0 ∷ 1 ∷ 1 ∷ 0 ∷ 2 ∷ []) 4 42 5
     ∷ recordOf 2 3 (2 ∷ 0 ∷ 1 ∷ 1 ∷ 0 ∷ 2 ∷ []) (1 ∷ 0 ∷ 0 ∷ 0 ∷ 14 ∷ 2 ∷ 3 ∷ 0 ∷ 2 ∷ 0 ∷ 0 ∷ 0 ∷ 1 ∷ 0 ∷ 1 ∷ 0 ∷ 0 ∷ 0 ∷ 2 ∷ [])
+    ∷ answerOf 2 3 (2 ∷ 0 ∷ 1 ∷ 1 ∷ 0 ∷ 2 ∷ []) (1 ∷ 0 ∷ 0 ∷ 0 ∷ 21 ∷ 0 ∷ 0 ∷ 0 ∷ 0 ∷ 0 ∷ 0 ∷ 0 ∷ 0 ∷ 0 ∷ 0 ∷ 0 ∷ 0 ∷ 0 ∷ 0 ∷ 0 ∷ 0 ∷ 3 ∷ 0 ∷ 0 ∷ 0 ∷ 2 ∷ [])
     ∷ [])
     -- n=2, (3,0)(0,2): [1,0,−1,−1,0,1]; HF 1, 2, 2, 1; dimension 6
     ∷ (coefficients 2 2 (3 ∷ 0 ∷ 0 ∷ 2 ∷ []) (pos 1 ∷ pos 0 ∷ negsuc 0 ∷ negsuc 0 ∷ pos 0 ∷ pos 1 ∷ [])
