@@ -67,15 +67,45 @@ fn small(table: &mut Table) {
     table.head("small lists");
     for s in 3..=10 {
         let all = small_lists(workloads::small, 700, s);
-        small_row(table, "numerator", all, |p| { p.numerator(); }, |p| { p.rust_numerator(); });
+        small_row(
+            table,
+            "numerator",
+            all,
+            |p| {
+                p.numerator();
+            },
+            |p| {
+                p.rust_numerator();
+            },
+        );
     }
     for s in 3..=10 {
         let all = small_lists(workloads::small_artinian, 800, s);
-        small_row(table, "numerator, squares", all, |p| { p.numerator(); }, |p| { p.rust_numerator(); });
+        small_row(
+            table,
+            "numerator, squares",
+            all,
+            |p| {
+                p.numerator();
+            },
+            |p| {
+                p.rust_numerator();
+            },
+        );
     }
     for s in 3..=10 {
         let all = small_lists(workloads::small_artinian, 800, s);
-        small_row(table, "dimension, squares", all, |p| { p.dimension(); }, |p| { p.rust_dimension(); });
+        small_row(
+            table,
+            "dimension, squares",
+            all,
+            |p| {
+                p.dimension();
+            },
+            |p| {
+                p.rust_dimension();
+            },
+        );
     }
 }
 

@@ -46,17 +46,23 @@ fn axes(svg: &mut String) {
 }
 
 fn drawn(svg: &mut String, line: &Line) {
-    let points: Vec<String> = line.points.iter().map(|&(size, time)| format!("{:.1},{:.1}", x(size), y(time))).collect();
+    let points: Vec<String> =
+        line.points.iter().map(|&(size, time)| format!("{:.1},{:.1}", x(size), y(time))).collect();
     let dash = if line.dashed { " stroke-dasharray='5 4'" } else { "" };
     let colour = line.colour;
-    let _ = writeln!(svg, "<polyline fill='none' stroke='{colour}' stroke-width='1.6'{dash} points='{}'/>", points.join(" "));
+    let _ = writeln!(
+        svg,
+        "<polyline fill='none' stroke='{colour}' stroke-width='1.6'{dash} points='{}'/>",
+        points.join(" ")
+    );
 }
 
 fn legend(svg: &mut String, k: usize, line: &Line) {
     let (at, start) = (TOP + 14.0 + 20.0 * k as f64, WIDTH - RIGHT + 14.0);
     let dash = if line.dashed { " stroke-dasharray='5 4'" } else { "" };
     let (colour, end) = (line.colour, start + 26.0);
-    let _ = writeln!(svg, "<line x1='{start}' y1='{at}' x2='{end}' y2='{at}' stroke='{colour}' stroke-width='1.6'{dash}/>");
+    let _ =
+        writeln!(svg, "<line x1='{start}' y1='{at}' x2='{end}' y2='{at}' stroke='{colour}' stroke-width='1.6'{dash}/>");
     let _ = writeln!(svg, "<text x='{}' y='{}'>{}</text>", end + 6.0, at + 4.0, line.name);
 }
 

@@ -17,7 +17,12 @@ impl Rooms {
     fn of(list: &List, given: usize) -> Self {
         let asked = list.asked();
         let coefficients = asked.coefficients.max(given);
-        Rooms { room: vec![7; asked.cells], first: vec![7; coefficients], second: vec![7; coefficients], sums: vec![7; 2 * coefficients] }
+        Rooms {
+            room: vec![7; asked.cells],
+            first: vec![7; coefficients],
+            second: vec![7; coefficients],
+            sums: vec![7; 2 * coefficients],
+        }
     }
 
     fn lent(&mut self) -> Lent<'_> {
@@ -91,7 +96,16 @@ impl Update {
         let mut values: Values = [0; 4];
         let (old, new) = (black_box(&self.old), &self.new);
         let lent = &mut self.rooms.lent();
-        let number = bridge::update(old.n as u64, &self.given, old.s as u64, &old.cells, new.s as u64, &new.cells, lent, &mut values);
+        let number = bridge::update(
+            old.n as u64,
+            &self.given,
+            old.s as u64,
+            &old.cells,
+            new.s as u64,
+            &new.cells,
+            lent,
+            &mut values,
+        );
         assert_eq!(number, 0);
         &self.rooms.first[..values[0] as usize]
     }
