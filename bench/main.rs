@@ -1,4 +1,10 @@
-//! Times of the bridge's calls and of picus on the same lists, in one process. Rooms are lent as the last call left them.
+//! Times of the bridge's calls and of picus on the same lists, in one process; docs/BENCHMARKS.md says how to run it.
+//!
+//! `bench`            every table
+//! `bench TABLE..`    some of them: numerators, small, dimensions, updates
+//! `bench plot FILE`  the plot of time against size
+//! `bench lists`      the lists of the first table, one a line with its time and numerator; `bench lists 500` random ones
+//! `bench once KIND K` each list of a kind once by either side, for a count of instructions
 
 #[path = "../tests/compare/bridge.rs"]
 #[allow(dead_code)]
@@ -9,243 +15,222 @@ mod limit;
 #[path = "../tests/compare/list.rs"]
 #[allow(dead_code)]
 mod list;
+mod plot;
+mod prepared;
 #[path = "../tests/compare/random.rs"]
 #[allow(dead_code)]
 mod random;
+mod table;
 mod workloads;
 
-use bridge::{Lent, Values};
-use limit::Limited;
-use list::{Asked, List};
-use picus::hilbert::{hilbert_numerator, quotient_dimension, HilbertNum};
-use picus::monomial::Monomial;
-use std::hint::black_box;
+use list::List;
+use plot::Line;
+use prepared::{Prepared, Update};
+use random::Random;
+use table::Table;
+use workloads::Asked;
 
-const LIMIT_SECONDS: i64 = 20;
+/// How many small lists a row takes.
+const SMALL: usize = 500;
 
-struct Rooms {
-    room: Vec<u16>,
-    first: Vec<i64>,
-    second: Vec<i64>,
-    sums: Vec<u64>,
-}
+/// Seconds that picus has for a point of the plot.
+const POINT_SECONDS: i64 = 5;
 
-impl Rooms {
-    fn of(asked: Asked) -> Self {
-        Rooms { room: vec![7; asked.cells], first: vec![7; asked.coefficients], second: vec![7; asked.coefficients], sums: vec![7; asked.sums] }
-    }
-
-    fn lent(&mut self) -> Lent<'_> {
-        Lent { room: &mut self.room, first: &mut self.first, second: &mut self.second, sums: &mut self.sums }
-    }
-}
-
-/// A list with its rooms, and as picus takes it.
-struct Prepared {
-    list: List,
-    rooms: Rooms,
-    picus: Vec<Monomial>,
-}
-
-fn prepared(list: List) -> Prepared {
-    let mut asked = list.asked();
-    asked.sums = 2 * asked.coefficients;
-    Prepared { rooms: Rooms::of(asked), picus: list.picus(), list }
-}
-
-impl Prepared {
-    fn numerator(&mut self) -> &[i64] {
-        let mut values: Values = [0; 4];
-        let number = bridge::numerator(self.list.n as u64, self.list.s as u64, black_box(&self.list.cells), &mut self.rooms.lent(), &mut values);
-        assert_eq!(number, 0);
-        &self.rooms.first[..values[0] as usize]
-    }
-
-    fn dimension(&mut self) -> u128 {
-        let mut values: Values = [0; 4];
-        let number = bridge::dimension(self.list.n as u64, self.list.s as u64, black_box(&self.list.cells), &mut self.rooms.lent(), &mut values);
-        assert_eq!(number, 0);
-        (values[1] as u128) << 64 | values[0] as u128
-    }
-}
-
-fn head(what: &str) {
-    println!("{what:<16} {:>3} {:>5} {:>12} {:>14} {:>9}", "n", "s", "ours us", "Rust us", "ratio");
-}
-
-fn row(name: &str, n: usize, s: usize, ours: f64, rust: Limited) {
-    let head = format!("{name:<16} {n:>3} {s:>5} {:>12.2}", ours / 1000.0);
-    match rust {
-        Limited::Done(time) => println!("{head} {:>14.2} {:>9.2}", time / 1000.0, time / ours),
-        Limited::TooLong => println!("{head} {:>14} {:>9}", format!("> {LIMIT_SECONDS} s"), "-"),
-        Limited::Failed => println!("{head} {:>14} {:>9}", "DIFFERS", "-"),
-    }
-}
-
-fn numerators() {
-    head("numerator");
+fn numerators(table: &mut Table) {
+    table.head("numerator");
     for w in workloads::numerators() {
-        let mut p = prepared(w.list);
+        let mut p = Prepared::of(w.list);
         let ours = clock::median(|| {
             p.numerator();
         });
         let answer = p.numerator().to_vec();
-        let rust = limit::within(LIMIT_SECONDS, || {
-            let mut agreed = true;
-            let time = clock::median(|| agreed &= hilbert_numerator(black_box(&p.picus)).coeffs() == answer);
-            assert!(agreed);
-            time
-        });
-        row(&w.name, p.list.n, p.list.s, ours, rust);
+        let rust = table::rust(|| p.rust_numerator().coeffs() == answer);
+        table.row(&w.name, p.list.n, p.list.s, ours, rust, w.asked);
     }
 }
 
-fn small_numerators() {
-    head("small numerators");
+/// Nanoseconds a list, by either side.
+fn small_row(table: &mut Table, name: &str, mut all: Vec<Prepared>, ours: fn(&mut Prepared), rust: fn(&Prepared)) {
+    let count = all.len() as f64;
+    let our_time = clock::median(|| all.iter_mut().for_each(ours)) / count;
+    let rust_time = clock::median(|| all.iter().for_each(rust)) / count;
+    let n = all.iter().map(|p| p.list.n).max().unwrap_or(0);
+    table.row(name, n, all[0].list.s, our_time, Some(rust_time), Asked::Times(2.0));
+}
+
+fn small_lists(kind: fn(&mut Random, usize) -> List, seed: u64, s: usize) -> Vec<Prepared> {
+    let mut random = Random::of(seed + s as u64);
+    (0..SMALL).map(|_| Prepared::of(kind(&mut random, s))).collect()
+}
+
+fn small(table: &mut Table) {
+    table.head("small lists");
     for s in 3..=10 {
-        let mut random = random::Random::of(700 + s as u64);
-        let mut all: Vec<Prepared> = (0..500).map(|_| prepared(workloads::small(&mut random, s))).collect();
-        let ours = clock::median(|| {
-            for p in &mut all {
+        let all = small_lists(workloads::small, 700, s);
+        small_row(
+            table,
+            "numerator",
+            all,
+            |p| {
                 p.numerator();
-            }
-        });
-        let rust = clock::median(|| {
-            for p in &all {
-                black_box(hilbert_numerator(black_box(&p.picus)));
-            }
-        });
-        row("4-8 variables", 8, s, ours / 500.0, Limited::Done(rust / 500.0));
+            },
+            |p| {
+                p.rust_numerator();
+            },
+        );
+    }
+    for s in 3..=10 {
+        let all = small_lists(workloads::small_artinian, 800, s);
+        small_row(
+            table,
+            "numerator, squares",
+            all,
+            |p| {
+                p.numerator();
+            },
+            |p| {
+                p.rust_numerator();
+            },
+        );
+    }
+    for s in 3..=10 {
+        let all = small_lists(workloads::small_artinian, 800, s);
+        small_row(
+            table,
+            "dimension, squares",
+            all,
+            |p| {
+                p.dimension();
+            },
+            |p| {
+                p.rust_dimension();
+            },
+        );
     }
 }
 
-fn dimensions() {
-    head("dimension");
-    for k in 1..=3 {
-        let mut p = prepared(workloads::squares(&mut random::Random::of(100 + k)));
+fn dimensions(table: &mut Table) {
+    table.head("dimension");
+    for w in workloads::numerators().into_iter().filter(|w| w.name.starts_with('a')) {
+        let mut p = Prepared::of(w.list);
         let ours = clock::median(|| {
             p.dimension();
         });
-        let answer = p.dimension();
-        let rust = limit::within(LIMIT_SECONDS, || clock::median(|| assert_eq!(quotient_dimension(black_box(&p.picus), p.list.n), Some(answer))));
-        row(&format!("a{k}"), p.list.n, p.list.s, ours, rust);
+        let answer = Some(p.dimension());
+        let rust = table::rust(|| p.rust_dimension() == answer);
+        table.row(&w.name, p.list.n, p.list.s, ours, rust, Asked::Times(5.0));
     }
-    for s in 3..=10 {
-        let mut random = random::Random::of(800 + s as u64);
-        let mut all: Vec<Prepared> = (0..500).map(|_| prepared(workloads::small_artinian(&mut random, s))).collect();
+}
+
+fn updates(table: &mut Table) {
+    table.head("update, 40 and 1");
+    for (name, list) in workloads::updates() {
+        let mut u = Update::of(list);
         let ours = clock::median(|| {
-            for p in &mut all {
-                p.dimension();
-            }
+            u.update();
         });
-        let rust = clock::median(|| {
-            for p in &all {
-                black_box(quotient_dimension(black_box(&p.picus), p.list.n));
-            }
+        let answer = u.update().to_vec();
+        let rust = table::rust(|| u.rust_update().coeffs() == answer);
+        table.row(&name, u.list.n, u.list.s, ours, rust, Asked::Times(1.0));
+    }
+}
+
+/// Both times for lists of one kind and size: the median of three lists. None for picus from the first that it does not end on.
+fn point(kind: fn(&mut Random, usize) -> List, s: usize, with_rust: bool) -> (f64, Option<f64>) {
+    let mut ours = Vec::new();
+    let mut rust = Vec::new();
+    for k in 0..3 {
+        let mut p = Prepared::of(kind(&mut Random::of(2000 + k), s));
+        ours.push(clock::median(|| {
+            p.numerator();
+        }));
+        if with_rust && rust.len() == k as usize {
+            rust.extend(table::rust_within(POINT_SECONDS, || !p.rust_numerator().coeffs().is_empty()));
+        }
+    }
+    ours.sort_by(f64::total_cmp);
+    rust.sort_by(f64::total_cmp);
+    (ours[1], (rust.len() == 3).then(|| rust[1]))
+}
+
+fn plotted() -> String {
+    let kinds: [(&str, &str, fn(&mut Random, usize) -> List); 4] = [
+        ("b: n = 20, products", "#1b6ca8", workloads::products),
+        ("c: n = 10, generic", "#c0392b", workloads::generic),
+        ("d: n = 30, edges", "#27803b", workloads::edges),
+        ("e: n = 255, triples", "#8e44ad", workloads::wide),
+    ];
+    let mut lines = Vec::new();
+    for (name, colour, kind) in kinds {
+        let (mut ours, mut rust) = (Vec::new(), Vec::new());
+        for s in (5..=60).step_by(5) {
+            let (our_time, rust_time) = point(kind, s, rust.len() == ours.len());
+            ours.push((s, our_time));
+            rust.extend(rust_time.map(|time| (s, time)));
+        }
+        lines.push(Line { name: name.to_string(), colour, dashed: false, points: ours });
+        lines.push(Line { name: "the Rust".to_string(), colour, dashed: true, points: rust });
+    }
+    plot::svg(&lines)
+}
+
+/// A list a line: name, width, count, cells, nanoseconds, and the numerator after its length.
+fn lists(random_ones: usize) {
+    let mut all: Vec<(String, List)> = Vec::new();
+    if random_ones == 0 {
+        all.extend(workloads::numerators().into_iter().map(|w| (w.name.replace(' ', "-"), w.list)));
+    }
+    let mut random = Random::of(3000);
+    all.extend((0..random_ones).map(|k| (format!("r{k}"), workloads::any(&mut random))));
+    for (name, list) in all {
+        let mut p = Prepared::of(list);
+        let time = clock::median(|| {
+            p.numerator();
         });
-        row("small, squares", 6, s, ours / 500.0, Limited::Done(rust / 500.0));
+        let answer = p.numerator().to_vec();
+        let text = |values: Vec<String>| values.join(" ");
+        let cells = text(p.list.cells.iter().map(u16::to_string).collect());
+        let coefficients = text(answer.iter().map(i64::to_string).collect());
+        println!("{name} {} {} {cells} {time:.0} {} {coefficients}", p.list.n, p.list.s, answer.len());
     }
 }
 
-fn update(name: &str, list: List, existing: usize) {
-    let (old, new) = list.parted(existing);
-    let (old_picus, new_picus) = (old.picus(), new.picus());
-    let mut p = prepared(old.clone());
-    let given = p.numerator().to_vec();
-    let mut asked = list.asked();
-    asked.coefficients = asked.coefficients.max(given.len());
-    let mut rooms = Rooms::of(asked);
-    let mut values: Values = [0; 4];
-    let ours = clock::median(|| {
-        let number = bridge::update(
-            list.n as u64, &given, old.s as u64, black_box(&old.cells), new.s as u64, &new.cells, &mut rooms.lent(), &mut values,
-        );
-        assert_eq!(number, 0);
-    });
-    let answer = &rooms.first[..values[0] as usize];
-    let start = HilbertNum::of(given.clone());
-    let rust = limit::within(LIMIT_SECONDS, || {
-        clock::median(|| assert_eq!(start.add_generators_incremental(black_box(&old_picus), &new_picus).coeffs(), answer))
-    });
-    row(name, list.n, list.s, ours, rust);
-}
-
-fn updates() {
-    head("update, 40 and 1");
-    for k in 1..=3u64 {
-        let mut random = random::Random::of(900 + k);
-        let a = workloads::squares(&mut random);
-        let (_, tail) = a.parted(19);
-        update(&format!("a{k}"), tail, 40);
-        update(&format!("b{k}"), workloads::products(&mut random, 41), 40);
-        update(&format!("c{k}"), workloads::generic(&mut random, 41), 40);
-        update(&format!("d{k}"), workloads::edges(&mut random, 41), 40);
-        update(&format!("e{k}"), workloads::wide(&mut random, 41), 40);
-    }
-}
-
-/// Each list once by either side, for a count of instructions.
-#[inline(never)]
-fn counted_rust(p: &Prepared) -> HilbertNum {
-    hilbert_numerator(black_box(&p.picus))
-}
-
-#[inline(never)]
-fn counted_rust_dimension(p: &Prepared) -> Option<u128> {
-    quotient_dimension(black_box(&p.picus), p.list.n)
-}
-
-fn once(kind: &str, s: usize) {
-    if kind == "list" {
-        let w = workloads::numerators().swap_remove(s);
-        let mut p = prepared(w.list);
-        assert_eq!(p.numerator().to_vec(), counted_rust(&p).coeffs());
-        return;
-    }
-    let mut random = random::Random::of(if kind == "small" { 700 } else { 800 } + s as u64);
-    for _ in 0..500 {
-        let mut p = prepared(if kind == "small" { workloads::small(&mut random, s) } else { workloads::small_artinian(&mut random, s) });
-        if kind == "small" {
-            assert_eq!(p.numerator().to_vec(), counted_rust(&p).coeffs());
-        } else {
-            assert_eq!(Some(p.dimension()), counted_rust_dimension(&p));
+fn once(kind: &str, k: usize) {
+    match kind {
+        "small" => small_lists(workloads::small, 700, k).iter_mut().for_each(|p| {
+            assert_eq!(p.numerator().to_vec(), p.rust_numerator().coeffs());
+        }),
+        "squares" => small_lists(workloads::small_artinian, 800, k).iter_mut().for_each(|p| {
+            assert_eq!(Some(p.dimension()), p.rust_dimension());
+        }),
+        "update" => {
+            let mut u = Update::of(workloads::updates().swap_remove(k).1);
+            assert_eq!(u.update().to_vec(), u.rust_update().coeffs());
+        }
+        _ => {
+            let mut p = Prepared::of(workloads::numerators().swap_remove(k).list);
+            assert_eq!(p.numerator().to_vec(), p.rust_numerator().coeffs());
         }
     }
 }
 
 fn main() {
-    let parts: Vec<String> = std::env::args().skip(1).collect();
-    let wanted = |part: &str| parts.is_empty() || parts.iter().any(|p| p == part);
-    if parts.first().is_some_and(|p| p == "once") {
-        return once(&parts[1], parts[2].parse().unwrap());
+    let words: Vec<String> = std::env::args().skip(1).collect();
+    let word = |k: usize| words.get(k).map(String::as_str);
+    let number = |k: usize| word(k).map_or(0, |text| text.parse().expect("a number"));
+    match word(0) {
+        Some("lists") => return lists(number(1)),
+        Some("once") => return once(&words[1], number(2)),
+        Some("plot") => return std::fs::write(&words[1], plotted()).expect("the plot can be written"),
+        _ => {}
     }
-    if parts.first().is_some_and(|p| p == "lists") {
-        for w in workloads::numerators() {
-            let cells: Vec<String> = w.list.cells.iter().map(|x| x.to_string()).collect();
-            println!("{} {} {} {}", w.name.replace(' ', "-"), w.list.n, w.list.s, cells.join(" "));
+    let tables: [(&str, fn(&mut Table)); 4] =
+        [("small", small), ("dimensions", dimensions), ("updates", updates), ("numerators", numerators)];
+    let mut table = Table::default();
+    for (name, print) in tables {
+        if words.is_empty() || words.iter().any(|w| w == name) {
+            print(&mut table);
         }
-        return;
     }
-    if parts.first().is_some_and(|p| p == "ours") {
-        for w in workloads::numerators() {
-            let mut p = prepared(w.list);
-            let ours = clock::median(|| {
-                p.numerator();
-            });
-            print!("{}={:.3} ", w.name.replace(' ', "-"), ours / 1e6);
-        }
-        return println!();
-    }
-    if wanted("small") {
-        small_numerators();
-    }
-    if wanted("dimensions") {
-        dimensions();
-    }
-    if wanted("updates") {
-        updates();
-    }
-    if wanted("numerators") {
-        numerators();
-    }
+    table.end();
 }

@@ -3,9 +3,20 @@
 use crate::list::List;
 use crate::random::Random;
 
+/// What a time is held to.
+#[derive(Clone, Copy)]
+pub enum Asked {
+    /// At least so many times as fast as the Rust where that ends.
+    Times(f64),
+    /// At most so many milliseconds.
+    Milliseconds(f64),
+}
+
+/// A list, and what its time is held to.
 pub struct Workload {
     pub name: String,
     pub list: List,
+    pub asked: Asked,
 }
 
 fn spread(n: usize, variables: &[usize], exponents: impl Fn(usize) -> u16) -> Vec<u16> {
@@ -95,33 +106,46 @@ pub fn small_artinian(random: &mut Random, s: usize) -> List {
     List::of(n, &all)
 }
 
-fn named(name: String, list: List) -> Workload {
-    Workload { name, list }
+/// Lists of any of these kinds, where every system ends soon.
+pub fn any(random: &mut Random) -> List {
+    let s = random.from(2, 25);
+    match random.below(6) {
+        0 => small(random, s.min(12)),
+        1 => products(random, s),
+        2 => generic(random, s),
+        3 => edges(random, s),
+        4 => wide(random, s.min(14)),
+        _ => small_artinian(random, s.clamp(3, 12)),
+    }
 }
 
 /// Workloads (a) to (f) and the 3-regular graphs.
 pub fn numerators() -> Vec<Workload> {
     let mut all = Vec::new();
-    for k in 1..=5 {
-        all.push(named(format!("a{k}"), squares(&mut Random::of(100 + k))));
-    }
-    for k in 1..=5 {
-        all.push(named(format!("b{k}"), products(&mut Random::of(200 + k), 60)));
-    }
-    for k in 1..=5 {
-        all.push(named(format!("c{k}"), generic(&mut Random::of(300 + k), 60)));
-    }
-    for k in 1..=5 {
-        all.push(named(format!("d{k}"), edges(&mut Random::of(400 + k), 60)));
-    }
-    for k in 1..=5 {
-        all.push(named(format!("e{k}"), wide(&mut Random::of(500 + k), 60)));
-    }
-    for k in 11..=13 {
-        all.push(named(format!("K{k}"), complete(k)));
-    }
+    let mut add = |name: String, list: List, asked: Asked| all.push(Workload { name, list, asked });
+    let seeds = |first: u64| (1..=5).map(move |k| (k, Random::of(first + k)));
+    seeds(100).for_each(|(k, mut random)| add(format!("a{k}"), squares(&mut random), Asked::Times(5.0)));
+    seeds(200).for_each(|(k, mut random)| add(format!("b{k}"), products(&mut random, 60), Asked::Times(2.0)));
+    seeds(300).for_each(|(k, mut random)| add(format!("c{k}"), generic(&mut random, 60), Asked::Times(2.0)));
+    seeds(400).for_each(|(k, mut random)| add(format!("d{k}"), edges(&mut random, 60), Asked::Times(2.0)));
+    seeds(500).for_each(|(k, mut random)| add(format!("e{k}"), wide(&mut random, 60), Asked::Milliseconds(100.0)));
+    (11..=13).for_each(|k| add(format!("K{k}"), complete(k), Asked::Times(2.0)));
     for k in [24, 26, 28, 30] {
-        all.push(named(format!("3-regular {k}"), regular(&mut Random::of(600 + k as u64), k)));
+        add(format!("3-regular {k}"), regular(&mut Random::of(600 + k as u64), k), Asked::Times(2.0));
+    }
+    all
+}
+
+/// 41 monomials of each kind, the last one new; of the first kind all products and the squares of the last variables.
+pub fn updates() -> Vec<(String, List)> {
+    let mut all = Vec::new();
+    for k in 1..=3 {
+        let random = &mut Random::of(900 + k);
+        all.push((format!("a{k}, 40 and 1"), squares(random).parted(19).1));
+        all.push((format!("b{k}, 40 and 1"), products(random, 41)));
+        all.push((format!("c{k}, 40 and 1"), generic(random, 41)));
+        all.push((format!("d{k}, 40 and 1"), edges(random, 41)));
+        all.push((format!("e{k}, 40 and 1"), wide(random, 41)));
     }
     all
 }

@@ -94,14 +94,18 @@ fn refused(tally: &mut Tally, list: &List, wanted: u8) {
     let number = bridge::dimension(list.n as u64, list.s as u64, &list.cells, &mut rooms.lent(), &mut values);
     let column = if wanted == 11 { Column::Alone } else { Column::Refused };
     let same = wanted == 11 || against(None, list) == Column::Agreed;
-    tally.expect(DIMENSION, column, number == wanted && same && values == HELD && rooms.untouched(), (list, number, values));
+    tally.expect(
+        DIMENSION,
+        column,
+        number == wanted && same && values == HELD && rooms.untouched(),
+        (list, number, values),
+    );
 }
 
 fn in_rooms(tally: &mut Tally, random: &mut Random, list: &List, top: usize) {
     let asked = Asked { sums: 2 * (top + 1), ..list.asked() };
     let extra = random.below(3);
-    let mut rooms =
-        Rooms::of(asked.cells + extra, asked.coefficients + extra, asked.coefficients, asked.sums + extra);
+    let mut rooms = Rooms::of(asked.cells + extra, asked.coefficients + extra, asked.coefficients, asked.sums + extra);
     let mut values = HELD;
     let number = bridge::dimension(list.n as u64, list.s as u64, &list.cells, &mut rooms.lent(), &mut values);
     let value = (values[1] as u128) << 64 | values[0] as u128;

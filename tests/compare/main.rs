@@ -116,7 +116,9 @@ impl Comparison {
         self.lists += 1;
         let (number, coefficients, right) = numerators::called(list, 0);
         let bytes: Vec<u8> = coefficients.iter().flat_map(|x| x.to_le_bytes()).collect();
-        let said = limit::within(HARD_SECONDS, || hilbert_numerator(&list.picus()).coeffs().iter().flat_map(|x| x.to_le_bytes()).collect());
+        let said = limit::within(HARD_SECONDS, || {
+            hilbert_numerator(&list.picus()).coeffs().iter().flat_map(|x| x.to_le_bytes()).collect()
+        });
         let column = match said {
             Limited::Done(other) if other == bytes => Column::Agreed,
             Limited::TooLong => Column::TooLong,
@@ -129,9 +131,15 @@ impl Comparison {
     fn hard_lists(&mut self, long: bool) {
         for k in 0..if long { 100 } else { 5 } {
             let random = &mut Random::of(1000 + k);
-            let mut lists = vec![workloads::products(random, 60), workloads::generic(random, 60), workloads::edges(random, 60)];
+            let mut lists =
+                vec![workloads::products(random, 60), workloads::generic(random, 60), workloads::edges(random, 60)];
             if long && k < 10 {
-                lists.extend([workloads::squares(random), workloads::regular(random, 22), workloads::wide(random, 30), workloads::wide(random, 60)]);
+                lists.extend([
+                    workloads::squares(random),
+                    workloads::regular(random, 22),
+                    workloads::wide(random, 30),
+                    workloads::wide(random, 60),
+                ]);
             }
             lists.iter().for_each(|list| self.hard(list));
         }
@@ -175,7 +183,8 @@ fn main() {
     let seed = words.get(1).map_or(20, |word| word.parse().expect("the seed is a number"));
     let all = compared(words.first().is_some_and(|word| word == "long"), seed);
     all.tally.print();
-    let passed = [Column::Agreed, Column::Refused, Column::Alone].map(|column| all.tally.of(column)).iter().sum::<u64>();
+    let passed =
+        [Column::Agreed, Column::Refused, Column::Alone].map(|column| all.tally.of(column)).iter().sum::<u64>();
     let failed = all.tally.of(Column::Failed);
     println!("compare: {} lists, {passed} passed, {failed} failed", all.lists);
     std::process::exit((failed > 0) as i32);

@@ -18,7 +18,11 @@ fn value(tally: &mut Tally, call: impl FnOnce(&mut [u64; 4]) -> u8, wanted: u64,
 
 /// An output where picus has one, else the refusal meant.
 fn output(
-    tally: &mut Tally, call: impl FnOnce(&mut [u16]) -> u8, n: usize, wanted: Option<Monomial>, refusal: u8,
+    tally: &mut Tally,
+    call: impl FnOnce(&mut [u16]) -> u8,
+    n: usize,
+    wanted: Option<Monomial>,
+    refusal: u8,
     about: (&str, &[u16], &[u16]),
 ) {
     let mut out = Fenced::of(n, 0xeeee);

@@ -63,15 +63,38 @@ fn short(tally: &mut Tally, random: &mut Random, list: &List) {
 
 /// Numbers that are refused before any room: the call with no room at all.
 pub fn refused(tally: &mut Tally, n: u64, s: u64, cells: &[u16]) {
-    let wanted = if n > 255 { 1 } else if s > 60 { 2 } else if cells.len() as u64 != s * n { 3 } else { return };
+    let wanted = if n > 255 {
+        1
+    } else if s > 60 {
+        2
+    } else if cells.len() as u64 != s * n {
+        3
+    } else {
+        return;
+    };
     let mut rooms = Rooms::of(0, 0, 0, 0);
     let mut values = HELD;
     let number = bridge::numerator(n, s, cells, &mut rooms.lent(), &mut values);
-    tally.expect(NUMERATOR, Column::Alone, number == wanted && values == HELD && rooms.untouched(), (n, s, cells.len(), number));
+    tally.expect(
+        NUMERATOR,
+        Column::Alone,
+        number == wanted && values == HELD && rooms.untouched(),
+        (n, s, cells.len(), number),
+    );
     let number = bridge::update(n, &[i64::MIN], s, cells, 0, &[], &mut rooms.lent(), &mut values);
-    tally.expect(UPDATE, Column::Alone, number == wanted && values == HELD && rooms.untouched(), (n, s, cells.len(), number));
+    tally.expect(
+        UPDATE,
+        Column::Alone,
+        number == wanted && values == HELD && rooms.untouched(),
+        (n, s, cells.len(), number),
+    );
     let number = bridge::update(n, &[i64::MIN], 0, &[], s, cells, &mut rooms.lent(), &mut values);
-    tally.expect(UPDATE, Column::Alone, number == wanted && values == HELD && rooms.untouched(), (n, s, cells.len(), number));
+    tally.expect(
+        UPDATE,
+        Column::Alone,
+        number == wanted && values == HELD && rooms.untouched(),
+        (n, s, cells.len(), number),
+    );
 }
 
 /// More than 60 monomials only together.
@@ -88,8 +111,16 @@ fn updated(given: &[i64], old: &List, new: &List, short: bool) -> (u8, Vec<i64>,
     asked.coefficients = asked.coefficients.max(given.len());
     let mut rooms = Rooms::of(asked.cells, asked.coefficients, asked.coefficients - short as usize, 0);
     let mut values = HELD;
-    let number =
-        bridge::update(old.n as u64, given, old.s as u64, &old.cells, new.s as u64, &new.cells, &mut rooms.lent(), &mut values);
+    let number = bridge::update(
+        old.n as u64,
+        given,
+        old.s as u64,
+        &old.cells,
+        new.s as u64,
+        &new.cells,
+        &mut rooms.lent(),
+        &mut values,
+    );
     if number != 0 {
         return (number, Vec::new(), values == HELD && rooms.untouched());
     }

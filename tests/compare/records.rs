@@ -98,7 +98,8 @@ pub fn read(tally: &mut Tally, random: &mut Random, bytes: &[u8]) {
     let mut out = Fenced::of(510, 0xee);
     let mut values = HELD;
     let found = bridge::place(bytes, k as u64, out.lent(), &mut values);
-    let right = if number == 0 { told(found, &values, &[part.len() as u64]) } else { found == number && values == HELD };
+    let right =
+        if number == 0 { told(found, &values, &[part.len() as u64]) } else { found == number && values == HELD };
     tally.expect(READ, column, right && out.holds(&part, part.len()), (bytes, k, found));
     copy(tally, random, bytes, list);
 }
@@ -116,7 +117,12 @@ fn copy(tally: &mut Tally, random: &mut Random, bytes: &[u8], list: Option<List>
         }
         other => {
             let wanted = if other.is_some() { 14 } else { 12 };
-            tally.expect(READ, Column::Alone, number == wanted && values == HELD && cells.holds(&[], 0), (bytes, number));
+            tally.expect(
+                READ,
+                Column::Alone,
+                number == wanted && values == HELD && cells.holds(&[], 0),
+                (bytes, number),
+            );
         }
     }
 }

@@ -46,7 +46,12 @@ pub struct Rooms {
 
 impl Rooms {
     pub fn of(room: usize, first: usize, second: usize, sums: usize) -> Self {
-        Rooms { room: Fenced::of(room, 7), first: Fenced::of(first, -7), second: Fenced::of(second, 77), sums: Fenced::of(sums, 7) }
+        Rooms {
+            room: Fenced::of(room, 7),
+            first: Fenced::of(first, -7),
+            second: Fenced::of(second, 77),
+            sums: Fenced::of(sums, 7),
+        }
     }
 
     pub fn lent(&mut self) -> Lent<'_> {

@@ -25,7 +25,11 @@ fn binomial(m: u128, r: u128) -> Option<u128> {
 }
 
 fn gcd(a: u128, b: u128) -> u128 {
-    if b == 0 { a } else { gcd(b, a % b) }
+    if b == 0 {
+        a
+    } else {
+        gcd(b, a % b)
+    }
 }
 
 /// The sum of all |N_k|·C(d−k+n−1, n−1), or nothing from 2^127 on.
