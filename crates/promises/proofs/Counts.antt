@@ -12,7 +12,7 @@ use lib.IntN.{ℤ, pos, _+ℤ_, _-ℤ_}
 use lib.ListN.{length, take, drop, replicate}
 use lib.Seq.{take-at}
 use contract.Lifetimes.{Lfts}
-use borrow.Author.Tests.{leb-false, eqb-true, eqb-false, not-false}
+use borrow.Author.Tests.{ltb-false, leb-false, eqb-true, eqb-false, not-false}
 use Rattle.laws.specs.Coefficients.{Trimmed, coefficient}
 use Rattle.laws.specs.Count.{bit, occurrences, monomials, HF}
 use Rattle.laws.specs.Dimension.{leastPower, finite, degreeBound, powersProduct, standards, dimension, topDegree}
@@ -20,6 +20,7 @@ use Rattle.laws.specs.Hilbert.{hilbert, hilbertSize}
 use Rattle.laws.specs.Ideal.{listed, Within, multiple, unitIn}
 use Rattle.laws.specs.Monomial.{degree}
 use Rattle.laws.specs.Numerator.{numerator, numeratorAt, update}
+use Rattle.laws.specs.Record.{isRecord, widthIn, countIn, exponentsIn, listIn, answerRecord}
 use Rattle.laws.specs.Room.{coefficientsAsked, updateAsked}
 use Rattle.laws.proofs.Coefficients.{trimmed-unique}
 use Rattle.laws.proofs.Counting.{numerator-unique}
@@ -35,7 +36,7 @@ use Rattle.laws.proofs.Update.{update-coefficient, update-trimmed, update-direc
 use Rattle.laws.proofs.Word.{pair-words}
 use Rattle.monomials.specs.Refusal.{Check, refusal, after}
 use Rattle.monomials.specs.declared.refusal.Refusal.{Refusal}
-use Rattle.monomials.specs.declared.refusal.Refusal.the-variants.{Width, Count, Cells, SumRoom, Degree, Value, Dimension}
+use Rattle.monomials.specs.declared.refusal.Refusal.the-variants.{Width, Count, Cells, SumRoom, Degree, Value, Record, Dimension, Output}
 use Rattle.numbers.specs.Wide.{value, wide, wideOf, signedValue}
 use Rattle.numbers.specs.Dimension.{dimensionIs, noDimension, boundChecks, roomChecks, dimensionChecks}
 use Rattle.numbers.specs.Hilbert.{signedAnswer, valueCheck, hilbertChecks}
@@ -54,8 +55,12 @@ use Rattle.numbers.proofs.numerator.hilbert_numerator.Reads as hilbert_numerato
 use Rattle.numbers.proofs.update.add_generators.Reads as add_generators
 use Rattle.numbers.proofs.hf_at.hf_at.Reads as hf_at
 use Rattle.numbers.proofs.dimension.quotient_dimension.Reads as quotient_dimension
+use Rattle.records.specs.Answer.{answerOf}
+use Rattle.records.specs.Host.{ownCells, ownCoefficients, ownWords, hostChecks}
+use Rattle.records.proofs.host.purlthicket_dim.Reads as purlthicket_dim
 use Rattle.promises.specs.Promise.{Slice, _⨾_, Signed64}
-use Rattle.promises.proofs.Checks.{passes}
+use Rattle.promises.proofs.Checks.{passes, done-none}
+use Rattle.promises.proofs.Refusals.{purlthicket-dim}
 
 -- The count behind HF: the list of all monomials of degree d in n variables has each of them exactly once, and nothing else.
 pub enumerated : (n d : ℕ) (u : List ℕ) → occurrences u (monomials n d) ≡ bit (eqb (length u) n && eqb (degree u) d)
@@ -269,3 +274,17 @@ module _ (κs : Lfts 5) (n s : ℕ) (cells room : Slice ℕ) (first second : Sli
 
   pub dimension-top : x .top ≡ topDegree n (listed n s (cells .now))
   dimension-top = sym (given-dimension .2)
+
+-- the same of the host's answer record, for what the ideal record lists
+module _ (κs : Lfts 2) (rec out : Slice ℕ) (r : ℕ) (out′ : Slice ℕ) (outcome : purlthicket_dim.Post κs (rec ⨾ out ⨾ tt) r (rec ⨾ out′ ⨾ tt)) (done : r ≡ 0) where
+  pub host-counts : let n = widthIn (rec .now) in let L = listIn (rec .now) in
+      Standards n L (standards n L) × (out′ .now ≡ answerRecord 0 (length (standards n L)) (topDegree n L) ++ drop 26 (out .now))
+  host-counts =
+      let cs = hostChecks 255 60 65536 26 (rec .now) (out .now) in
+      let n = widthIn (rec .now) in
+      let L : List (List ℕ) = listIn (rec .now) in
+      let room = passes (ltb (length (out .now)) 26) Output (drop 1 cs) (done-none (refusal cs) (sym (outcome .0) ∙ done)) in
+      let taken = passes (not (isRecord 60 (rec .now))) Record (drop 2 cs) (room .1) in
+      let f = accepted n (countIn (rec .now)) (exponentsIn (rec .now)) ownCells ownCoefficients ownCoefficients ownWords (taken .1) in
+      let written = purlthicket-dim κs rec out r out′ outcome .2 (ltb-false (length (out .now)) 26 (room .0)) in
+      (standards-exactly n L f, written ∙ ap (λ (k : ℕ). answerOf k (dimension n L) (topDegree n L) ++ drop 26 (out .now)) done)

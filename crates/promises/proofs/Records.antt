@@ -16,7 +16,7 @@ use Rattle.laws.specs.Ideal.{listed, Width, Same}
 use Rattle.laws.specs.Minimal.{minimal, Falling}
 use Rattle.laws.specs.Record.{idealRecord, isRecord, widthIn, countIn, exponentsIn, listIn}
 use Rattle.laws.proofs.Enumeration.{equal-refl}
-use Rattle.laws.proofs.Ideal.{listed-width}
+use Rattle.laws.proofs.Ideal.{listed-width, listed-count, same-refl}
 use Rattle.laws.proofs.Minimal.{minimal-same, minimal-shortest, minimal-falling}
 use Rattle.laws.proofs.Monomial.{and-left, and-right}
 use Rattle.laws.proofs.Reading.{listed-small, record-again, record-list, record-is}
@@ -101,6 +101,25 @@ not-twelve : (b t : Bool) (q : Refusal) → number q ≢ 12 → (status (refusal
 not-twelve true true q h = (λ g. refl, λ g. h)
 not-twelve true false q h = (λ g. refl, λ g e. omega arith)
 not-twelve false t q h = (λ g. absurd (g refl), λ g. absurd (false≢true g))
+
+-- what was written is taken
+module _ (κs : Lfts 2) (n s : ℕ) (cells out : Slice ℕ) (r : SizeAnswer) (out′ : Slice ℕ)
+    (outcome : «write_record».Post κs (n ⨾ s ⨾ cells ⨾ out ⨾ tt) r (n ⨾ s ⨾ cells ⨾ out′ ⨾ tt))
+    (k : ℕ) (answer : r .outcome ≡ SizeOutcome.Value k) (fit : Below 65536 (cells .now)) where
+  is-record : isRecord 60 (take k (out′ .now)) ≡ true
+  is-record =
+      let L : List (List ℕ) = listed n s (cells .now) in
+      let (bytes, size, w, c) = written κs n s cells out r out′ outcome k answer in
+      let few : length (minimal L) ≤ 60 = omega (arith, minimal-shortest n L L w w (same-refl n L), listed-count n s (cells .now)) in
+      rw bytes (record-is 60 n L w (listed-small n s (cells .now) fit) few)
+
+  pub written-taken : (λs : Lfts 1) (rec : Slice ℕ) (i : ℕ) (c : CheckAnswer) → check_place.Post λs (rec ⨾ i ⨾ tt) c (rec ⨾ i ⨾ tt)
+      → rec .now ≡ take k (out′ .now) → numberIn (ofCheck c 0) ≢ 12
+  written-taken λs rec i c p e =
+      let cs = placeChecks 60 (rec .now) i in
+      let taken : isRecord 60 (rec .now) ≡ true = ap (isRecord 60) e ∙ is-record in
+      rw (ap (λ (a : CheckAnswer). numberIn (ofCheck a 0)) p ∙ check-number (refusal cs))
+      (not-twelve (isRecord 60 (rec .now)) (leb (countIn (rec .now)) i) Place (λ z. omega arith) .1 taken)
 
 -- bytes are a record exactly when writing out what they list gives those bytes
 module _ (rec out : List ℕ) where
