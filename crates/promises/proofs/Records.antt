@@ -1,4 +1,10 @@
--- Demand 3.
+-- Demand 3: one ideal, one record. Each law speaks of any outcome that the call's contract allows, as the source states it. Cells are 16-bit
+-- numbers and bytes 8-bit numbers, as the types of the slices say.
+--   same-bytes                two accepted lists
+--   record-shortest, record-size   the list in the record
+--   place-takes, copy-takes   which bytes are taken as a record
+--   written-taken             what was written is taken
+-- Assumes nothing.
 use mathlib.Core.Path.{_≡_, refl, sym, ap, ap₂, subst, _∙_}
 use mathlib.Core.Logic.{_≢_, _↔_}
 use mathlib.Core.Bool.{Bool, true, false, not, _&&_, false≢true}
@@ -72,9 +78,12 @@ module _ (κs : Lfts 2) (n s : ℕ) (cells out : Slice ℕ) (r : SizeAnswer) (ou
       let (w, c, e) = accepted n s (cells .now) (out .now) o in
       (ap (take k) (outcome .1) ∙ t, l, listed-width n s (cells .now) (omega arith), c)
 
+  -- "Size 7 + 2·m·n", m being the number of minimal monomials.
   pub record-size : k ≡ 7 + 2 * (length (minimal (listed n s (cells .now))) * n)
   record-size = sym (written .1) ∙ record-length n (listed n s (cells .now)) (written .2)
 
+  -- "No list with those multiples is shorter than the one in the record": it has the multiples of the list given, it falls by DegRevLex, and
+  -- it is no longer than any list of that width with the same multiples.
   pub record-shortest : Below 65536 (cells .now)
       → Same n (listed n s (cells .now)) (listIn (take k (out′ .now)))
       × Falling (listIn (take k (out′ .now)))
@@ -88,6 +97,7 @@ module _ (κs : Lfts 2) (n s : ℕ) (cells out : Slice ℕ) (r : SizeAnswer) (ou
 module _ (κs λs : Lfts 2) (n s t : ℕ) (cells out cells₂ out₂ : Slice ℕ) (r r₂ : SizeAnswer) (out′ out₂′ : Slice ℕ)
     (outcome : «write_record».Post κs (n ⨾ s ⨾ cells ⨾ out ⨾ tt) r (n ⨾ s ⨾ cells ⨾ out′ ⨾ tt))
     (outcome₂ : «write_record».Post λs (n ⨾ t ⨾ cells₂ ⨾ out₂ ⨾ tt) r₂ (n ⨾ t ⨾ cells₂ ⨾ out₂′ ⨾ tt)) where
+  -- "Two accepted lists over the same number of variables get the same record bytes exactly when they have the same multiples."
   pub same-bytes : (j k : ℕ) → r .outcome ≡ SizeOutcome.Value j → r₂ .outcome ≡ SizeOutcome.Value k → Below 65536 (cells .now) → Below 65536 (cells₂ .now)
       → (take j (out′ .now) ≡ take k (out₂′ .now)) ↔ Same n (listed n s (cells .now)) (listed n t (cells₂ .now))
   same-bytes j k answer answer₂ fit fit₂ =
@@ -102,7 +112,7 @@ not-twelve true true q h = (λ g. refl, λ g. h)
 not-twelve true false q h = (λ g. refl, λ g e. omega arith)
 not-twelve false t q h = (λ g. absurd (g refl), λ g. absurd (false≢true g))
 
--- what was written is taken
+-- What was written is taken.
 module _ (κs : Lfts 2) (n s : ℕ) (cells out : Slice ℕ) (r : SizeAnswer) (out′ : Slice ℕ)
     (outcome : «write_record».Post κs (n ⨾ s ⨾ cells ⨾ out ⨾ tt) r (n ⨾ s ⨾ cells ⨾ out′ ⨾ tt))
     (k : ℕ) (answer : r .outcome ≡ SizeOutcome.Value k) (fit : Below 65536 (cells .now)) where
@@ -158,7 +168,9 @@ module _ (rec out : List ℕ) where
           let (x, y, z) = accepted (widthIn rec) (countIn rec) (exponentsIn rec) out o in
           back y z (sym t ∙ ap (take (length rec)) (sym q) ∙ g)
 
--- what stands in `exponents` is what the bytes list, and `out` has room for them
+-- "Bytes are taken as a record exactly when writing out what they list gives those bytes again": of any bytes `rec`, the width, count and
+-- exponents that they list are handed to the writer, with an output that has room for as many bytes; the readers then answer something
+-- other than 12 exactly when the writer answers that size and writes those bytes.
 module _ (κs : Lfts 2) (rec exponents out : Slice ℕ) (w : SizeAnswer) (out′ : Slice ℕ)
     (outcome : «write_record».Post κs (widthIn (rec .now) ⨾ countIn (rec .now) ⨾ exponents ⨾ out ⨾ tt) w (widthIn (rec .now) ⨾ countIn (rec .now) ⨾ exponents ⨾ out′ ⨾ tt))
     (listed-there : exponents .now ≡ exponentsIn (rec .now)) (room : length (rec .now) ≤ length (out .now)) (bytes : Below 256 (rec .now)) where
