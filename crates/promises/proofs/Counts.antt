@@ -1,4 +1,12 @@
--- Demand 2.
+-- Demand 2: the numbers are right. Each law speaks of any outcome that the call's contract allows, as the source states it: r is the answer,
+-- and what has a prime is what a lent slice holds afterwards.
+--   enumerated                        the list behind HF has each monomial of its degree and width exactly once, and nothing else
+--   numerator-counts, numerator-only  hilbert_numerator
+--   update-adds, update-counts, update-direct-call   add_generators
+--   hf-at-value                       hf_at
+--   dimension-counts, dimension-only, dimension-top  quotient_dimension
+--   host-counts                       purlthicket_dim
+-- Assumes nothing.
 use mathlib.Core.Path.{_≡_, refl, sym, ap, _∙_}
 use mathlib.Core.Logic.{_≢_, _⊎_, inl, inr}
 use mathlib.Core.Bool.{Bool, true, false, not, _&&_, _||_, cond, false≢true}
@@ -12,7 +20,7 @@ use lib.IntN.{ℤ, pos, _+ℤ_, _-ℤ_}
 use lib.ListN.{length, take, drop, replicate}
 use lib.Seq.{take-at}
 use contract.Lifetimes.{Lfts}
-use borrow.Author.Tests.{leb-false, eqb-true, eqb-false, not-false}
+use borrow.Author.Tests.{ltb-false, leb-false, eqb-true, eqb-false, not-false}
 use Rattle.laws.specs.Coefficients.{Trimmed, coefficient}
 use Rattle.laws.specs.Count.{bit, occurrences, monomials, HF}
 use Rattle.laws.specs.Dimension.{leastPower, finite, degreeBound, powersProduct, standards, dimension, topDegree}
@@ -20,6 +28,7 @@ use Rattle.laws.specs.Hilbert.{hilbert, hilbertSize}
 use Rattle.laws.specs.Ideal.{listed, Within, multiple, unitIn}
 use Rattle.laws.specs.Monomial.{degree}
 use Rattle.laws.specs.Numerator.{numerator, numeratorAt, update}
+use Rattle.laws.specs.Record.{isRecord, widthIn, countIn, exponentsIn, listIn, answerRecord}
 use Rattle.laws.specs.Room.{coefficientsAsked, updateAsked}
 use Rattle.laws.proofs.Coefficients.{trimmed-unique}
 use Rattle.laws.proofs.Counting.{numerator-unique}
@@ -35,7 +44,7 @@ use Rattle.laws.proofs.Update.{update-coefficient, update-trimmed, update-direc
 use Rattle.laws.proofs.Word.{pair-words}
 use Rattle.monomials.specs.Refusal.{Check, refusal, after}
 use Rattle.monomials.specs.declared.refusal.Refusal.{Refusal}
-use Rattle.monomials.specs.declared.refusal.Refusal.the-variants.{Width, Count, Cells, SumRoom, Degree, Value, Dimension}
+use Rattle.monomials.specs.declared.refusal.Refusal.the-variants.{Width, Count, Cells, SumRoom, Degree, Value, Record, Dimension, Output}
 use Rattle.numbers.specs.Wide.{value, wide, wideOf, signedValue}
 use Rattle.numbers.specs.Dimension.{dimensionIs, noDimension, boundChecks, roomChecks, dimensionChecks}
 use Rattle.numbers.specs.Hilbert.{signedAnswer, valueCheck, hilbertChecks}
@@ -54,10 +63,15 @@ use Rattle.numbers.proofs.numerator.hilbert_numerator.Reads as hilbert_numerato
 use Rattle.numbers.proofs.update.add_generators.Reads as add_generators
 use Rattle.numbers.proofs.hf_at.hf_at.Reads as hf_at
 use Rattle.numbers.proofs.dimension.quotient_dimension.Reads as quotient_dimension
+use Rattle.records.specs.Answer.{answerOf}
+use Rattle.records.specs.Host.{ownCells, ownCoefficients, ownWords, hostChecks}
+use Rattle.records.proofs.host.purlthicket_dim.Reads as purlthicket_dim
 use Rattle.promises.specs.Promise.{Slice, _⨾_, Signed64}
-use Rattle.promises.proofs.Checks.{passes}
+use Rattle.promises.proofs.Checks.{passes, done-none}
+use Rattle.promises.proofs.Refusals.{purlthicket-dim}
 
--- The count behind HF: the list of all monomials of degree d in n variables has each of them exactly once, and nothing else.
+-- "HF(d) is the number of degree-d monomials in n variables that are no multiple": HF counts over this list, which has each monomial of
+-- degree d in n variables exactly once, and nothing else.
 pub enumerated : (n d : ℕ) (u : List ℕ) → occurrences u (monomials n d) ≡ bit (eqb (length u) n && eqb (degree u) d)
 enumerated n d u = go (eqb (length u) n) (eqb (degree u) d) refl refl
   where
@@ -89,6 +103,8 @@ module _ (κs : Lfts 4) (n s : ℕ) (cells room : Slice ℕ) (first second : Sli
       let e = coefficients-there o (numerator L) (first .now) (coefficientsAsked L) k (ap (λ (a : LengthAnswer). a .outcome) (sym (outcome .0)) ∙ answer) in
       (e .0, ap (take k) (outcome .1 .1 .0) ∙ e .1)
 
+  -- "For any list that is not refused the coefficients in the first room are trimmed, and for every degree d their n-fold sums are the number
+  -- of degree-d monomials that no listed one divides. The result is the trimmed length."
   pub numerator-counts :
       (length (take k (first′ .now)) ≡ k)
       × Trimmed (take k (first′ .now))
@@ -97,7 +113,7 @@ module _ (κs : Lfts 4) (n s : ℕ) (cells room : Slice ℕ) (first second : Sli
       let L = listed n s (cells .now) in
       rw (there .1) (there .0, numerator-trimmed L, λ d. hilbert-numerator n L d (listed-within n s (cells .now)))
 
-  -- and no other list of coefficients is trimmed and has these sums
+  -- No other list of coefficients is trimmed and has these sums.
   pub numerator-only : (N : List ℤ) → Trimmed N → ((d : ℕ) → hilbert N n d ≡ pos (HF (listed n s (cells .now)) n d)) → N ≡ take k (first′ .now)
   numerator-only N t h =
       let L = listed n s (cells .now) in
@@ -126,6 +142,7 @@ module _ (κs : Lfts 6) (n : ℕ) (given : Slice ℤ) (s0 : ℕ) (existing : Sli
       let e = coefficients-there (refusal cs) (update (given .now) L K) (first .now) (updateAsked (given .now) (L ++ K)) k (ap (λ (a : LengthAnswer). a .outcome) (sym (outcome .0)) ∙ answer) in
       (e .0, ap (take k) (outcome .1 .1 .0) ∙ e .1, counted (ltb 255 n) (ltb 60 (s0 + s1)) (length (existing .now)) (s0 * n) (drop 3 cs) (e .2))
 
+  -- "The answer is G + N(existing and new) − N(existing), trimmed."
   pub update-adds : let L = listed n s0 (existing .now) in let K = listed n s1 (added .now) in
       (length (take k (first′ .now)) ≡ k)
       × Trimmed (take k (first′ .now))
@@ -135,6 +152,8 @@ module _ (κs : Lfts 6) (n : ℕ) (given : Slice ℤ) (s0 : ℕ) (existing : Sli
       let K : List (List ℕ) = listed n s1 (added .now) in
       rw (updated .1) (updated .0, update-trimmed (given .now) L K, λ i. rw (numerator-coefficient (L ++ K) i, numerator-coefficient L i) (update-coefficient (given .now) L K i))
 
+  -- "Where G is N(existing), this is the direct numerator": where the sums of G count what the existing monomials leave, those of the answer
+  -- count what both lists leave;
   pub update-counts : ((d : ℕ) → hilbert (given .now) n d ≡ pos (HF (listed n s0 (existing .now)) n d))
       → (d : ℕ) → hilbert (take k (first′ .now)) n d ≡ pos (HF (listed n s0 (existing .now) ++ listed n s1 (added .now)) n d)
   update-counts h d =
@@ -143,7 +162,7 @@ module _ (κs : Lfts 6) (n : ℕ) (given : Slice ℤ) (s0 : ℕ) (existing : Sli
       let w = listed-within n s0 (existing .now) in
       rw (updated .1, update-right n (given .now) L K w h) (hilbert-numerator n (L ++ K) d (within-append n L K w (listed-within n s1 (added .now))))
 
-  -- that is what the numerator's call gives for both lists together
+  -- and the coefficients are those that the numerator's call gives for both lists together.
   pub update-direct-call : ((d : ℕ) → hilbert (given .now) n d ≡ pos (HF (listed n s0 (existing .now)) n d))
       → (λs : Lfts 4) (cells space : Slice ℕ) (p q : Slice ℤ) (a : LengthAnswer) (space′ : Slice ℕ) (p′ q′ : Slice ℤ)
       → hilbert_numerator.Post λs (n ⨾ s0 + s1 ⨾ cells ⨾ space ⨾ p ⨾ q ⨾ tt) a (n ⨾ s0 + s1 ⨾ cells ⨾ space′ ⨾ p′ ⨾ q′ ⨾ tt)
@@ -172,6 +191,7 @@ last-passes a b c t e =
 module _ (κs : Lfts 2) (n : ℕ) (given : Slice ℤ) (d : ℕ) (sums : Slice ℕ) (r : SignedAnswer) (sums′ : Slice ℕ)
     (outcome : hf_at.Post κs (n ⨾ given ⨾ d ⨾ sums ⨾ tt) r (n ⨾ given ⨾ d ⨾ sums′ ⨾ tt))
     (w : Wide) (answer : r .outcome ≡ SignedOutcome.Value w) where
+  -- "`hf_at` takes any coefficient list and answers a signed 128-bit number": the binomial sum.
   pub hf-at-value : Signed64 (given .now) → signedValue w ≡ hilbert (given .now) n d
   hf-at-value fits =
       let p = given .now in
@@ -254,18 +274,35 @@ module _ (κs : Lfts 5) (n s : ℕ) (cells room : Slice ℕ) (first second : Sli
       let (o, e, t) = dimension-there (refusal (dimensionChecks 255 60 65536 n s (cells .now) (room .now) (first .now) (second .now) (sums .now))) n L x (ap (λ (a : DimensionAnswer). a .outcome) (sym (outcome .0)) ∙ answer) in
       (accepted n s (cells .now) (room .now) (first .now) (second .now) (sums .now) o, e, t)
 
+  -- "The dimension is the number of all monomials that no listed one divides": the length of a list that has each of them exactly once and
+  -- nothing else.
   pub dimension-counts : let L = listed n s (cells .now) in Standards n L (standards n L) × (value (x .dimension) ≡ length (standards n L))
   dimension-counts =
       let L : List (List ℕ) = listed n s (cells .now) in
       let (f, e, t) = given-dimension in
       (standards-exactly n L f, ap value (sym e) ∙ dimension-value n L f)
 
-  -- whatever list has each of them exactly once and nothing else, it has that length
+  -- Whatever list has each of them exactly once and nothing else, it has that length.
   pub dimension-only : (us : List (List ℕ)) → Standards n (listed n s (cells .now)) us → length us ≡ value (x .dimension)
   dimension-only us f =
       let L : List (List ℕ) = listed n s (cells .now) in
       let (g, e) = dimension-counts in
       omega (arith, e, standards-length n L us (standards n L) f g, standards-length n L (standards n L) us g f)
 
+  -- "Top degree is D; it is 0 for an ideal with a unit, or for n = 0."
   pub dimension-top : x .top ≡ topDegree n (listed n s (cells .now))
   dimension-top = sym (given-dimension .2)
+
+-- The host's answer record carries that number, for what the ideal record lists.
+module _ (κs : Lfts 2) (rec out : Slice ℕ) (r : ℕ) (out′ : Slice ℕ) (outcome : purlthicket_dim.Post κs (rec ⨾ out ⨾ tt) r (rec ⨾ out′ ⨾ tt)) (done : r ≡ 0) where
+  pub host-counts : let n = widthIn (rec .now) in let L = listIn (rec .now) in
+      Standards n L (standards n L) × (out′ .now ≡ answerRecord 0 (length (standards n L)) (topDegree n L) ++ drop 26 (out .now))
+  host-counts =
+      let cs = hostChecks 255 60 65536 26 (rec .now) (out .now) in
+      let n = widthIn (rec .now) in
+      let L : List (List ℕ) = listIn (rec .now) in
+      let room = passes (ltb (length (out .now)) 26) Output (drop 1 cs) (done-none (refusal cs) (sym (outcome .0) ∙ done)) in
+      let taken = passes (not (isRecord 60 (rec .now))) Record (drop 2 cs) (room .1) in
+      let f = accepted n (countIn (rec .now)) (exponentsIn (rec .now)) ownCells ownCoefficients ownCoefficients ownWords (taken .1) in
+      let written = purlthicket-dim κs rec out r out′ outcome .2 (ltb-false (length (out .now)) 26 (room .0)) in
+      (standards-exactly n L f, written ∙ ap (λ (k : ℕ). answerOf k (dimension n L) (topDegree n L) ++ drop 26 (out .now)) done)

@@ -20,7 +20,6 @@ pub use Rattle.monomials.proofs.Determined.{
   cmp-lex-determined as monomials-monomial-cmp-lex,
   cmp-degrevlex-determined as monomials-monomial-cmp-degrevlex,
 }
-
 -- numbers: words, two-word numbers, coefficient lists, the Hilbert function
 pub use Rattle.numbers.proofs.DeterminedHilbert.{
   magnitude-determined as numbers-signed-magnitude,
@@ -43,18 +42,15 @@ pub use Rattle.numbers.proofs.DeterminedHilbert.{
   coeff-determined as numbers-coefficients-coeff,
   hf-at-determined as numbers-hf-at-hf-at,
 }
-
 -- numbers: the numerator and its update
 pub use Rattle.numbers.proofs.DeterminedNumerator.{
   hilbert-numerator-determined as numbers-numerator-hilbert-numerator,
   add-generators-determined as numbers-update-add-generators,
 }
-
 -- numbers: the dimension
 pub use Rattle.numbers.proofs.DeterminedDimension.{
   quotient-dimension-determined as numbers-dimension-quotient-dimension,
 }
-
 -- records
 pub use Rattle.records.proofs.DeterminedRecords.{
   write-record-determined as records-ideal-write-record,
@@ -65,7 +61,6 @@ pub use Rattle.records.proofs.DeterminedRecords.{
   answer-record-determined as records-host-answer-record,
   purlthicket-dim-determined as records-host-purlthicket-dim,
 }
-
 -- the calls for C and Rust
 pub use Rattle.bridge.proofs.Determined.{
   pt-degree as bridge-monomial-pt-degree,
@@ -92,7 +87,6 @@ pub use Rattle.bridge.proofs.Determined.{
   pt-place as bridge-ideal-pt-place,
   pt-copy-record as bridge-ideal-pt-copy-record,
 }
-
 -- the reader of test vectors
 pub use Rattle.vectors.proofs.Determined.{
   integer-at-determined as vectors-integer-at,

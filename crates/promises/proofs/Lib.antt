@@ -1,5 +1,5 @@
--- What the user was promised.
-mod Checks
+-- What the user was promised, over the contracts as the source states them.
+pub mod Checks
 mod Answers
 pub mod Refusals
 pub mod Counts

@@ -1,4 +1,10 @@
--- Demand 3.
+-- Demand 3: one ideal, one record. Each law speaks of any outcome that the call's contract allows, as the source states it. Cells are 16-bit
+-- numbers and bytes 8-bit numbers, as the types of the slices say.
+--   same-bytes                two accepted lists
+--   record-shortest, record-size   the list in the record
+--   place-takes, copy-takes   which bytes are taken as a record
+--   written-taken             what was written is taken
+-- Assumes nothing.
 use mathlib.Core.Path.{_≡_, refl, sym, ap, ap₂, subst, _∙_}
 use mathlib.Core.Logic.{_≢_, _↔_}
 use mathlib.Core.Bool.{Bool, true, false, not, _&&_, false≢true}
@@ -16,7 +22,7 @@ use Rattle.laws.specs.Ideal.{listed, Width, Same}
 use Rattle.laws.specs.Minimal.{minimal, Falling}
 use Rattle.laws.specs.Record.{idealRecord, isRecord, widthIn, countIn, exponentsIn, listIn}
 use Rattle.laws.proofs.Enumeration.{equal-refl}
-use Rattle.laws.proofs.Ideal.{listed-width}
+use Rattle.laws.proofs.Ideal.{listed-width, listed-count, same-refl}
 use Rattle.laws.proofs.Minimal.{minimal-same, minimal-shortest, minimal-falling}
 use Rattle.laws.proofs.Monomial.{and-left, and-right}
 use Rattle.laws.proofs.Reading.{listed-small, record-again, record-list, record-is}
@@ -72,9 +78,12 @@ module _ (κs : Lfts 2) (n s : ℕ) (cells out : Slice ℕ) (r : SizeAnswer) (ou
       let (w, c, e) = accepted n s (cells .now) (out .now) o in
       (ap (take k) (outcome .1) ∙ t, l, listed-width n s (cells .now) (omega arith), c)
 
+  -- "Size 7 + 2·m·n", m being the number of minimal monomials.
   pub record-size : k ≡ 7 + 2 * (length (minimal (listed n s (cells .now))) * n)
   record-size = sym (written .1) ∙ record-length n (listed n s (cells .now)) (written .2)
 
+  -- "No list with those multiples is shorter than the one in the record": it has the multiples of the list given, it falls by DegRevLex, and
+  -- it is no longer than any list of that width with the same multiples.
   pub record-shortest : Below 65536 (cells .now)
       → Same n (listed n s (cells .now)) (listIn (take k (out′ .now)))
       × Falling (listIn (take k (out′ .now)))
@@ -88,6 +97,7 @@ module _ (κs : Lfts 2) (n s : ℕ) (cells out : Slice ℕ) (r : SizeAnswer) (ou
 module _ (κs λs : Lfts 2) (n s t : ℕ) (cells out cells₂ out₂ : Slice ℕ) (r r₂ : SizeAnswer) (out′ out₂′ : Slice ℕ)
     (outcome : «write_record».Post κs (n ⨾ s ⨾ cells ⨾ out ⨾ tt) r (n ⨾ s ⨾ cells ⨾ out′ ⨾ tt))
     (outcome₂ : «write_record».Post λs (n ⨾ t ⨾ cells₂ ⨾ out₂ ⨾ tt) r₂ (n ⨾ t ⨾ cells₂ ⨾ out₂′ ⨾ tt)) where
+  -- "Two accepted lists over the same number of variables get the same record bytes exactly when they have the same multiples."
   pub same-bytes : (j k : ℕ) → r .outcome ≡ SizeOutcome.Value j → r₂ .outcome ≡ SizeOutcome.Value k → Below 65536 (cells .now) → Below 65536 (cells₂ .now)
       → (take j (out′ .now) ≡ take k (out₂′ .now)) ↔ Same n (listed n s (cells .now)) (listed n t (cells₂ .now))
   same-bytes j k answer answer₂ fit fit₂ =
@@ -101,6 +111,25 @@ not-twelve : (b t : Bool) (q : Refusal) → number q ≢ 12 → (status (refusal
 not-twelve true true q h = (λ g. refl, λ g. h)
 not-twelve true false q h = (λ g. refl, λ g e. omega arith)
 not-twelve false t q h = (λ g. absurd (g refl), λ g. absurd (false≢true g))
+
+-- What was written is taken.
+module _ (κs : Lfts 2) (n s : ℕ) (cells out : Slice ℕ) (r : SizeAnswer) (out′ : Slice ℕ)
+    (outcome : «write_record».Post κs (n ⨾ s ⨾ cells ⨾ out ⨾ tt) r (n ⨾ s ⨾ cells ⨾ out′ ⨾ tt))
+    (k : ℕ) (answer : r .outcome ≡ SizeOutcome.Value k) (fit : Below 65536 (cells .now)) where
+  is-record : isRecord 60 (take k (out′ .now)) ≡ true
+  is-record =
+      let L : List (List ℕ) = listed n s (cells .now) in
+      let (bytes, size, w, c) = written κs n s cells out r out′ outcome k answer in
+      let few : length (minimal L) ≤ 60 = omega (arith, minimal-shortest n L L w w (same-refl n L), listed-count n s (cells .now)) in
+      rw bytes (record-is 60 n L w (listed-small n s (cells .now) fit) few)
+
+  pub written-taken : (λs : Lfts 1) (rec : Slice ℕ) (i : ℕ) (c : CheckAnswer) → check_place.Post λs (rec ⨾ i ⨾ tt) c (rec ⨾ i ⨾ tt)
+      → rec .now ≡ take k (out′ .now) → numberIn (ofCheck c 0) ≢ 12
+  written-taken λs rec i c p e =
+      let cs = placeChecks 60 (rec .now) i in
+      let taken : isRecord 60 (rec .now) ≡ true = ap (isRecord 60) e ∙ is-record in
+      rw (ap (λ (a : CheckAnswer). numberIn (ofCheck a 0)) p ∙ check-number (refusal cs))
+      (not-twelve (isRecord 60 (rec .now)) (leb (countIn (rec .now)) i) Place (λ z. omega arith) .1 taken)
 
 -- bytes are a record exactly when writing out what they list gives those bytes
 module _ (rec out : List ℕ) where
@@ -139,7 +168,9 @@ module _ (rec out : List ℕ) where
           let (x, y, z) = accepted (widthIn rec) (countIn rec) (exponentsIn rec) out o in
           back y z (sym t ∙ ap (take (length rec)) (sym q) ∙ g)
 
--- what stands in `exponents` is what the bytes list, and `out` has room for them
+-- "Bytes are taken as a record exactly when writing out what they list gives those bytes again": of any bytes `rec`, the width, count and
+-- exponents that they list are handed to the writer, with an output that has room for as many bytes; the readers then answer something
+-- other than 12 exactly when the writer answers that size and writes those bytes.
 module _ (κs : Lfts 2) (rec exponents out : Slice ℕ) (w : SizeAnswer) (out′ : Slice ℕ)
     (outcome : «write_record».Post κs (widthIn (rec .now) ⨾ countIn (rec .now) ⨾ exponents ⨾ out ⨾ tt) w (widthIn (rec .now) ⨾ countIn (rec .now) ⨾ exponents ⨾ out′ ⨾ tt))
     (listed-there : exponents .now ≡ exponentsIn (rec .now)) (room : length (rec .now) ≤ length (out .now)) (bytes : Below 256 (rec .now)) where

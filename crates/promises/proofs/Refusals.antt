@@ -1,4 +1,8 @@
--- Demand 1.
+-- Demand 1: every public call refuses exactly under document 01's conditions, in 01's order, and what each lent slice then holds. Each law
+-- speaks of any outcome that the call's contract allows, as the source states it: r is the answer, `numberIn (of.. r)` its number, and what
+-- has a prime is what a lent slice holds afterwards. `First` says which of 01's conditions decides, and no other number is possible
+-- (`first-exactly`); `After` says what a slice holds. Calls that are not named here have no refusal to tell.
+-- Assumes nothing.
 use mathlib.Core.Path.{_≡_, refl, sym, ap, _∙_}
 use mathlib.Core.Logic.{_≢_, _↔_, _⊎_, inl, inr}
 use mathlib.Core.Bool.{Bool, true, false, not, cond}
@@ -82,7 +86,7 @@ rooms-means : (c k : ℕ) (room : List ℕ) (p q : List ℤ)
 rooms-means c k room p q =
     (above (length room) c, (refl, (either (ltb (length p) k) (ltb (length q) k) (above (length p) k) (above (length q) k), (refl, tt))))
 
--- monomials
+-- "Monomials: 1, 3, 4, 5, 6, as they apply; the width is the number given, or else the first monomial's length. Masks: 1 only."
 
 pub total-degree : (κs : Lfts 1) (a : Slice ℕ) (r : NumberAnswer) → total_degree.Post κs (a ⨾ tt) r (a ⨾ tt)
     → First ((255 < length (a .now), 1) ∷ []) (numberIn (ofNumber r))
@@ -184,7 +188,8 @@ pub mask-of : (κs : Lfts 1) (n most : ℕ) (exponents : Slice ℕ) (r : MaskAns
     → First ((255 < n, 1) ∷ []) (numberIn (ofMask r))
 mask-of κs n most exponents r p = mask-first (tooWide 255 n ∷ []) (ofWords (mask n most (exponents .now))) p (above 255 n, (refl, tt))
 
--- numbers
+-- "Numerator: 1, 2, 3, 7, 8. Update: 1, 2, 3 existing, 3 new, 15, 7, 8." "After success it is the first coefficient room: the coefficients, then
+-- zeros up to the asked size. Every other room is zero in its asked part; cells beyond are untouched."
 
 module _ (κs : Lfts 4) (n s : ℕ) (cells room : Slice ℕ) (first second : Slice ℤ) (r : LengthAnswer) (room′ : Slice ℕ) (first′ second′ : Slice ℤ)
     (outcome : hilbert_numerator.Post κs (n ⨾ s ⨾ cells ⨾ room ⨾ first ⨾ second ⨾ tt) r (n ⨾ s ⨾ cells ⨾ room′ ⨾ first′ ⨾ second′ ⨾ tt)) where
@@ -204,7 +209,7 @@ module _ (κs : Lfts 4) (n s : ℕ) (cells room : Slice ℕ) (first second : Sli
       let cs = numeratorChecks 255 60 n s (cells .now) (room .now) (first .now) (second .now) in
       let j = length (numerator L) in (
         length-first cs j (outcome .0)
-        (above 255 n, (refl, (above 60 s, (refl, (differs (length (cells .now)) (s * n), (refl, rooms-means (cellsAsked n L) (coefficientsAsked L) (room .now) (first .now) (second .now))))))),
+            (above 255 n, (refl, (above 60 s, (refl, (differs (length (cells .now)) (s * n), (refl, rooms-means (cellsAsked n L) (coefficientsAsked L) (room .now) (first .now) (second .now))))))),
         length-after (refusal cs) j (outcome .0) (outcome .1 .0),
         length-after (refusal cs) j (outcome .0) (outcome .1 .1 .0),
         length-after (refusal cs) j (outcome .0) (outcome .1 .1 .1),
@@ -233,7 +238,7 @@ module _ (κs : Lfts 6) (n : ℕ) (given : Slice ℤ) (s0 : ℕ) (existing : Sli
       let cs = updateChecks 255 60 (2 ^ 61) n G s0 (existing .now) s1 (added .now) (room .now) (first .now) (second .now) in
       let j = length (update G L K) in (
         length-first cs j (outcome .0)
-        (above 255 n, (refl, (above 60 (s0 + s1), (refl, (differs (length (existing .now)) (s0 * n), (refl, (differs (length (added .now)) (s1 * n), (refl, (coefficient-beyond (2 ^ 61) G, (refl, rooms-means (cellsAsked n (L ++ K)) (updateAsked G (L ++ K)) (room .now) (first .now) (second .now))))))))))),
+            (above 255 n, (refl, (above 60 (s0 + s1), (refl, (differs (length (existing .now)) (s0 * n), (refl, (differs (length (added .now)) (s1 * n), (refl, (coefficient-beyond (2 ^ 61) G, (refl, rooms-means (cellsAsked n (L ++ K)) (updateAsked G (L ++ K)) (room .now) (first .now) (second .now))))))))))),
         length-after (refusal cs) j (outcome .0) (outcome .1 .0),
         length-after (refusal cs) j (outcome .0) (outcome .1 .1 .0),
         length-after (refusal cs) j (outcome .0) (outcome .1 .1 .1),
@@ -249,7 +254,7 @@ sums-left false false true t w y x e = (λ h. absurd (elim h [ inl p ↦ omega a
 sums-left false false false true w y x e = (λ h. e, λ h g. absurd (g refl))
 sums-left false false false false w y x e = (λ h. e, λ h g. absurd (h refl))
 
--- the first exception: after 11 the sum room is zero in its asked part
+-- "hf_at: 1, 10, 9, 11." The first exception: "the sum room after 11 of `hf_at`, zero in its asked part".
 module _ (κs : Lfts 2) (n : ℕ) (given : Slice ℤ) (d : ℕ) (sums : Slice ℕ) (r : SignedAnswer) (sums′ : Slice ℕ)
     (outcome : hf_at.Post κs (n ⨾ given ⨾ d ⨾ sums ⨾ tt) r (n ⨾ given ⨾ d ⨾ sums′ ⨾ tt)) where
   pub hf-at : let k = numberIn (ofSigned r) in
@@ -263,12 +268,12 @@ module _ (κs : Lfts 2) (n : ℕ) (given : Slice ℤ) (d : ℕ) (sums : Slice �
       let e : k ≡ status (refusal cs) = ap (λ (a : SignedAnswer). numberIn (ofSigned a)) (outcome .0) ∙ signed-number (refusal cs) (hilbert (given .now) n d) in
       let left = sums-left (ltb 255 n) (ltb 65536 d) (ltb (length (sums .now)) (4 * (d + 1))) (leb (2 ^ 127) (hilbertSize (given .now) n d)) (sums′ .now) (wiped 0 (4 * (d + 1)) (sums .now)) (sums .now) (outcome .1) in (
         signed-first cs (hilbert (given .now) n d) (outcome .0)
-        (above 255 n, (refl, (above 65536 d, (refl, (above (length (sums .now)) (4 * (d + 1)), (refl, (reaches (2 ^ 127) (hilbertSize (given .now) n d), (refl, tt)))))))),
+            (above 255 n, (refl, (above 65536 d, (refl, (above (length (sums .now)) (4 * (d + 1)), (refl, (reaches (2 ^ 127) (hilbertSize (given .now) n d), (refl, tt)))))))),
         λ h. left .0 (rw e at h),
         λ h g. left .1 (rw e at h) (rw e at g),
       )
 
--- a unit, and no variables, are answered before any room is looked at, and then no room is touched
+-- "Dimension: 1, 2, 3; then unit gives 0; then n = 0 gives 1; then 13, 11, 7, 8, 9." "A dimension with a unit or n = 0 touches no room."
 module _ (κs : Lfts 5) (n s : ℕ) (cells room : Slice ℕ) (first second : Slice ℤ) (sums : Slice ℕ) (r : DimensionAnswer) (room′ : Slice ℕ) (first′ second′ : Slice ℤ) (sums′ : Slice ℕ)
     (outcome : quotient_dimension.Post κs (n ⨾ s ⨾ cells ⨾ room ⨾ first ⨾ second ⨾ sums ⨾ tt) r (n ⨾ s ⨾ cells ⨾ room′ ⨾ first′ ⨾ second′ ⨾ sums′ ⨾ tt)) where
   pub quotient-dimension : let L = listed n s (cells .now) in let k = numberIn (ofDimension r) in
@@ -294,14 +299,14 @@ module _ (κs : Lfts 5) (n s : ℕ) (cells room : Slice ℕ) (first second : Sli
       let ds = boundChecks 65536 n L ++ roomChecks n L (room .now) (first .now) (second .now) (sums .now) in
       let e : numberIn (ofDimension r) ≡ status (refusal cs) = ap (λ (a : DimensionAnswer). numberIn (ofDimension a)) (outcome .0) ∙ dimension-number (refusal cs) n L in (
         rw e (list-first n s (cells .now) (cond (atOnce n L) [] ds) (early-first (unitIn L) (eqb n 0) ds (unit-in L) (equals n 0)
-        (no-dimension 65536 n L, (refl, (reaches (2 ^ 127) (powersProduct n L), (refl, (above (length (room .now)) (cellsAsked n L), (refl, (either (ltb (length (first .now)) (coefficientsAsked L)) (ltb (length (second .now)) (coefficientsAsked L)) (above (length (first .now)) (coefficientsAsked L)) (above (length (second .now)) (coefficientsAsked L)), (refl, (above (length (sums .now)) (2 * (degreeBound n L + 1)), (refl, tt)))))))))))),
+            (no-dimension 65536 n L, (refl, (reaches (2 ^ 127) (powersProduct n L), (refl, (above (length (room .now)) (cellsAsked n L), (refl, (either (ltb (length (first .now)) (coefficientsAsked L)) (ltb (length (second .now)) (coefficientsAsked L)) (above (length (first .now)) (coefficientsAsked L)) (above (length (second .now)) (coefficientsAsked L)), (refl, (above (length (sums .now)) (2 * (degreeBound n L + 1)), (refl, tt)))))))))))),
         dimension-after (refusal cs) n L (outcome .0) (outcome .1 .0),
         dimension-after (refusal cs) n L (outcome .0) (outcome .1 .1 .0),
         dimension-after (refusal cs) n L (outcome .0) (outcome .1 .1 .1 .0),
         dimension-after (refusal cs) n L (outcome .0) (outcome .1 .1 .1 .1),
       )
 
--- records
+-- "Record writer: 1, 2, 3, 14. Reader: 12, 4 for a place; 12, 14 for the copy."
 
 module _ (κs : Lfts 2) (n s : ℕ) (cells out : Slice ℕ) (r : SizeAnswer) (out′ : Slice ℕ)
     (outcome : «write_record».Post κs (n ⨾ s ⨾ cells ⨾ out ⨾ tt) r (n ⨾ s ⨾ cells ⨾ out′ ⨾ tt)) where
@@ -312,7 +317,7 @@ module _ (κs : Lfts 2) (n s : ℕ) (cells out : Slice ℕ) (r : SizeAnswer) (ou
       let cs = writeRecordChecks 255 60 n s (cells .now) (out .now) in
       let j = length (idealRecord n (listed n s (cells .now))) in (
         size-first cs j (outcome .0)
-        (above 255 n, (refl, (above 60 s, (refl, (differs (length (cells .now)) (s * n), (refl, (above (length (out .now)) j, (refl, tt)))))))),
+            (above 255 n, (refl, (above 60 s, (refl, (differs (length (cells .now)) (s * n), (refl, (above (length (out .now)) j, (refl, tt)))))))),
         size-after (refusal cs) j (outcome .0) (outcome .1),
       )
 
@@ -321,7 +326,7 @@ module _ (κs : Lfts 1) (rec : Slice ℕ) (k : ℕ) (r : CheckAnswer) (outcome :
   pub check-place : First ((isRecord 60 (rec .now) ≡ false, 12) ∷ (countIn (rec .now) ≤ k, 4) ∷ []) (numberIn (ofCheck r 0))
   check-place = check-first (placeChecks 60 (rec .now) k) outcome (fails (isRecord 60 (rec .now)), (refl, (reaches (countIn (rec .now)) k, (refl, tt))))
 
-  -- the part that is handed back is empty where the check call refuses
+  -- "Where it refuses, the part is empty, and a check call on the same record and place gives the number."
   pub place : (λs : Lfts 1) (part : Slice ℕ) → place_of.Post λs (rec ⨾ k ⨾ tt) part (rec ⨾ k ⨾ tt) → After (numberIn (ofCheck r 0)) (part .now) [] (partOf (rec .now) k)
   place λs part p = check-after (refusal (placeChecks 60 (rec .now) k)) outcome p
 
@@ -345,7 +350,7 @@ module _ (κs : Lfts 1) (code : ℕ) (x : Wide) (top : ℕ) (out : Slice ℕ) (r
       let cs = answerChecks 26 (out .now) in
       (check-first cs (outcome .0) (above (length (out .now)) 26, (refl, tt)), check-after (refusal cs) (outcome .0) (outcome .1))
 
--- the host and the program `dim`: 14, 12, then the dimension's checks in the call's own rooms
+-- "Host call: 14, 12, then the dimension's", in the call's own rooms.
 abbrev pub hostRules : List ℕ → List ℕ → List Rule
 hostRules rec out =
     let n = widthIn rec in
@@ -374,7 +379,7 @@ host-first rec out =
     (list-first n (countIn rec) (exponentsIn rec) (cond (atOnce n L) [] ds) (early-first (unitIn L) (eqb n 0) ds (unit-in L) (equals n 0)
     (no-dimension 65536 n L, (refl, (reaches (2 ^ 127) (powersProduct n L), (refl, (above 16384 (cellsAsked n L), (refl, (twice (ltb 4096 (coefficientsAsked L)) (above 4096 (coefficientsAsked L)), (refl, (above 4096 (2 * (degreeBound n L + 1)), (refl, tt)))))))))))))
 
--- the second exception: after any refusal but 14 the answer record carries it, with both numbers 0
+-- The second exception: "after 14 nothing is written, after any other refusal the answer record carries it", with both numbers 0.
 module _ (rec out out′ : List ℕ) (k : ℕ) (e : out′ ≡ answerBytes 26 k (dimension (widthIn rec) (listIn rec)) (topDegree (widthIn rec) (listIn rec)) out) where
   host-kept : length out < 26 → out′ ≡ out
   host-kept h = e ∙ rw (lt-ltb (length out) 26 h)
@@ -401,7 +406,7 @@ module _ (κs : Lfts 2) (rec out : Slice ℕ) (r : ℕ) (out′ : Slice ℕ) (ou
       let k = status (refusal (hostChecks 255 60 65536 26 (rec .now) (out .now))) in
       rw (outcome .0) (host-first (rec .now) (out .now), host-kept (rec .now) (out .now) (out′ .now) k (outcome .1), host-written (rec .now) (out .now) (out′ .now) k (outcome .1))
 
--- no product is formed that could wrap: s = 2^63 with n = 2 is 2, whatever the cells, and so are 2^63 existing and 2^63 new monomials
+-- No product is formed that could wrap: s = 2^63 with n = 2 is 2, whatever the cells, and so are 2^63 existing and 2^63 new monomials
 
 pub numerator-too-many : (κs : Lfts 4) (cells room : Slice ℕ) (p q : Slice ℤ) (r : LengthAnswer) (room′ : Slice ℕ) (p′ q′ : Slice ℤ)
     → hilbert_numerator.Post κs (2 ⨾ 2 ^ 63 ⨾ cells ⨾ room ⨾ p ⨾ q ⨾ tt) r (2 ⨾ 2 ^ 63 ⨾ cells ⨾ room′ ⨾ p′ ⨾ q′ ⨾ tt) → numberIn (ofLength r) ≡ 2

@@ -1,4 +1,6 @@
--- The examples of document 01 that are proved: one law turns a row's test into what the row says, and the whole table is tested at once.
+-- The examples of document 01 that are proved: one law (`holds`) turns a row's test into what the row says of the calls, and the whole table is
+-- tested at once (`table`). `star 0` to `star 9` are 01's ten lines that carry a ★.
+-- Assumes nothing.
 use mathlib.Core.Path.{_≡_, refl, sym, ap, ap₂, subst, _∙_}
 use mathlib.Core.Bool.{Bool, true, false, not, _&&_, _||_, false≢true}
 use mathlib.Core.List.{List, [], _∷_, _++_, append-assoc}
@@ -204,15 +206,14 @@ answer-holds rec bytes h κs given out r out′ p e l =
     let (a, g) = both (eqb (recordStatus rec) 0) (eqb (length bytes) 26 && equal said bytes) h in
     let (b, c) = both (eqb (length bytes) 26) (equal said bytes) g in
     let done : r ≡ 0 =
-        p .0
-        ∙ ap (λ (bs : List ℕ). hostNumber 255 60 65536 26 bs (out .now)) e
-        ∙ ap (λ (t : Bool). status (refusal ((t, Output) ∷ drop 1 (hostChecks 255 60 65536 26 rec (out .now))))) (le-ltb (length (out .now)) 26 l)
-        ∙ eqb-true (recordStatus rec) 0 a in
-    let whole = purlthicket-dim κs given out r out′ p .2 l in
-    (
+    p .0
+    ∙ ap (λ (bs : List ℕ). hostNumber 255 60 65536 26 bs (out .now)) e
+    ∙ ap (λ (t : Bool). status (refusal ((t, Output) ∷ drop 1 (hostChecks 255 60 65536 26 rec (out .now))))) (le-ltb (length (out .now)) 26 l)
+    ∙ eqb-true (recordStatus rec) 0 a in
+    let whole = purlthicket-dim κs given out r out′ p .2 l in (
       done,
       ap (take 26) (whole ∙ ap₂ (λ (k : ℕ) (bs : List ℕ). answerBytesOf k (dimension (widthIn bs) (listIn bs)) (topDegree (widthIn bs) (listIn bs)) ++ drop 26 (out .now)) done e ∙ ap (λ (bs : List ℕ). bs ++ drop 26 (out .now)) (equal-eq said bytes c))
-      ∙ take-at bytes (drop 26 (out .now)) 26 (eqb-true (length bytes) 26 b),
+          ∙ take-at bytes (drop 26 (out .now)) 26 (eqb-true (length bytes) 26 b),
     )
 
 sizes-hold : (n s : ℕ) (cells : List ℕ) (e c k : ℕ) → test (sizes n s cells e c k) ≡ true → Says (sizes n s cells e c k)
@@ -245,15 +246,15 @@ update-holds n G s0 existing s1 added N h κs given old new room first second r 
     let o = update-done n G s0 existing s1 added (room .now) (first .now) (second .now) (leb-true n 255 w) (leb-true (s0 + s1) 60 m) (eqb-true (length existing) (s0 * n) i) (eqb-true (length added) (s1 * n) j) (not-true (beyond (2 ^ 61) G) b) c k l in
     let (x, y) = coefficients-put (refusal (updateChecks 255 60 (2 ^ 61) n G s0 existing s1 added (room .now) (first .now) (second .now))) U N (first .now) asked o (sameAll-eq U N f) in (
       ap (λ (a : LengthAnswer). a .outcome)
-      (p .0
-      ∙ ap (λ (g : List ℤ). updateAnswer 255 60 (2 ^ 61) n g s0 (old .now) s1 (new .now) (room .now) (first .now) (second .now)) eg
-      ∙ ap₂ (λ (a b : List ℕ). updateAnswer 255 60 (2 ^ 61) n G s0 a s1 b (room .now) (first .now) (second .now)) eo en)
-      ∙ x,
+          (p .0
+          ∙ ap (λ (g : List ℤ). updateAnswer 255 60 (2 ^ 61) n g s0 (old .now) s1 (new .now) (room .now) (first .now) (second .now)) eg
+          ∙ ap₂ (λ (a b : List ℕ). updateAnswer 255 60 (2 ^ 61) n G s0 a s1 b (room .now) (first .now) (second .now)) eo en)
+          ∙ x,
       ap (take (length N))
-      (p .1 .1 .0
-      ∙ ap (λ (g : List ℤ). updateFirst 255 60 (2 ^ 61) n g s0 (old .now) s1 (new .now) (room .now) (first .now) (second .now)) eg
-      ∙ ap₂ (λ (a b : List ℕ). updateFirst 255 60 (2 ^ 61) n G s0 a s1 b (room .now) (first .now) (second .now)) eo en)
-      ∙ y,
+          (p .1 .1 .0
+          ∙ ap (λ (g : List ℤ). updateFirst 255 60 (2 ^ 61) n g s0 (old .now) s1 (new .now) (room .now) (first .now) (second .now)) eg
+          ∙ ap₂ (λ (a b : List ℕ). updateFirst 255 60 (2 ^ 61) n G s0 a s1 b (room .now) (first .now) (second .now)) eo en)
+          ∙ y,
     )
 
 -- nothing is refused

@@ -22,7 +22,6 @@ abbrev pub Slice : Type 0 → Type 0
 Slice X = RefT (List X)
 
 infixr 5 _⨾_
-
 abbrev pub _⨾_ : {A B : Type 0} → A → B → A × B
 a ⨾ b = (a, b)
 
