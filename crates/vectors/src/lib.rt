@@ -1,4 +1,8 @@
 // Lines of decimal integers, as the test vectors have them, read at a place. Every place is taken: past the end of the text there is nothing.
+pub mod asked;
+pub mod counts;
+pub mod rooms;
+
 ghost use mathlib.Core.Path.{_≡_};
 ghost use Prim.Native.Nat.{_+_, _*_, _-_, _≤_, _<_, min};
 ghost use lib.ListN.{length, getD, drop};
