@@ -6,6 +6,7 @@ use contract.Lifetimes.{Lfts}
 use Rattle.vectors.specs.declared.Integer.{Integer}
 use Rattle.vectors.specs.declared.rooms.Contents.{Contents}
 use Rattle.vectors.specs.declared.rooms.Compared.{Compared}
+use Rattle.vectors.specs.declared.told.Told.{Told}
 use Rattle.vectors.proofs.integer_at.Reads as integer-at
 use Rattle.vectors.proofs.line_after.Reads as line-after
 use Rattle.vectors.proofs.rooms.list_at.Reads as list-at
@@ -22,6 +23,10 @@ use Rattle.vectors.proofs.rooms.are_coefficients.Reads as are-coefficie
 use Rattle.vectors.proofs.counts.tally.Reads as tally
 use Rattle.vectors.proofs.counts.say_counts.Reads as say-counts
 use Rattle.vectors.proofs.asked.cells_asked.Reads as cells-asked
+use Rattle.vectors.proofs.told.refused.Reads as refused
+use Rattle.vectors.proofs.told.done.Reads as done
+use Rattle.vectors.proofs.told.is_told.Reads as is-told
+use Rattle.vectors.proofs.told.output_at.Reads as output-at
 
 pub integer-at-determined : (κs : Lfts 1) (a : _) (r r′ : Integer) (s s′ : _) → integer-at.Post κs a r s → integer-at.Post κs a r′ s′ → r ≡ r′
 integer-at-determined κs a r r′ s s′ p q = p ∙ sym q
@@ -72,3 +77,15 @@ say-counts-determined κs a r r′ s s′ p q = p ∙ sym q
 
 pub cells-asked-determined : (κs : Lfts 1) (a : _) (r r′ : ℕ) (s s′ : _) → cells-asked.Post κs a r s → cells-asked.Post κs a r′ s′ → r ≡ r′
 cells-asked-determined κs a r r′ s s′ p q = p ∙ sym q
+
+pub refused-determined : (κs : Lfts 0) (a : _) (r r′ : Told) (s s′ : _) → refused.Post κs a r s → refused.Post κs a r′ s′ → r ≡ r′
+refused-determined κs a r r′ s s′ p q = p ∙ sym q
+
+pub done-determined : (κs : Lfts 0) (a : _) (r r′ : Told) (s s′ : _) → done.Post κs a r s → done.Post κs a r′ s′ → r ≡ r′
+done-determined κs a r r′ s s′ p q = p ∙ sym q
+
+pub is-told-determined : (κs : Lfts 1) (a : _) (r r′ : Compared) (s s′ : _) → is-told.Post κs a r s → is-told.Post κs a r′ s′ → r ≡ r′
+is-told-determined κs a r r′ s s′ p q = p ∙ sym q
+
+pub output-at-determined : (κs : Lfts 1) (a : _) (r r′ : Contents) (s s′ : _) → output-at.Post κs a r s → output-at.Post κs a r′ s′ → r ≡ r′
+output-at-determined κs a r r′ s s′ p q = p ∙ sym q

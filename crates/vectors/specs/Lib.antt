@@ -3,3 +3,4 @@ pub mod Text
 pub mod Rooms
 pub mod Counts
 pub mod Asked
+pub mod Told

@@ -2,6 +2,7 @@
 pub mod asked;
 pub mod counts;
 pub mod rooms;
+pub mod told;
 
 ghost use mathlib.Core.Path.{_≡_};
 ghost use Prim.Native.Nat.{_+_, _*_, _-_, _≤_, _<_, min};
