@@ -12,7 +12,7 @@ use vectors::rooms::put_words;
 use vectors::rooms::wiped;
 use vectors::told::Told;
 use vectors::told::done;
-use vectors::told::is_told;
+use vectors::told::is_answer;
 use vectors::told::refused;
 
 // Whether the call does what the case says, whose arguments start at `at`.
@@ -42,7 +42,7 @@ fn is_value_right(text: &[u8], at: usize) -> bool {
     )
 }
 
-// The same with the room that the case lends, whose size is at `at`.
+// The same with the room that the case lends, whose size is at `at`. A larger one than there is here is wrong.
 fn is_value_lent(
     n: usize,
     coeffs: &[i64],
@@ -53,6 +53,9 @@ fn is_value_lent(
 ) -> bool {
     let size = vectors::integer_at(text, at);
     let k = at_most(size.magnitude, room.len());
+    if k as u64 != size.magnitude {
+        return false;
+    }
     is_value_told(n, coeffs, d, &mut room[0..k], text, size.next)
 }
 
@@ -66,9 +69,8 @@ fn is_value_told(
 ) -> bool {
     put_words(text, wiped(0), sums);
     let told = value_told(numbers::hf_at::hf_at(n, coeffs, d, sums));
-    let answer = is_told(text, at, told);
     let room = are_words(text, wiped(wiped_by(told.number, d)), sums);
-    answer.right && room.right
+    room.right && is_answer(text, at, told)
 }
 
 // How many words of the room are 0 after the call: those that it asks for, unless it refuses before it uses them.
@@ -86,8 +88,7 @@ fn is_list_right(code: u64, text: &[u8], at: usize) -> bool {
     let m = at_most(list.count, 300);
     let d = vectors::integer_at(text, next);
     let told = list_told(code, &coeffs[0..m], d.magnitude as usize);
-    let answer = is_told(text, if code == 27 { d.next } else { next }, told);
-    answer.right
+    is_answer(text, if code == 27 { d.next } else { next }, told)
 }
 
 fn list_told(code: u64, coeffs: &[i64], d: usize) -> Told {

@@ -19,6 +19,7 @@ use vectors::rooms::put_cells;
 use vectors::rooms::wiped;
 use vectors::told::Told;
 use vectors::told::done;
+use vectors::told::is_answer;
 use vectors::told::is_told;
 use vectors::told::output_at;
 use vectors::told::refused;
@@ -42,8 +43,7 @@ fn is_number_right(code: u64, text: &[u8], at: usize) -> bool {
     let n = at_most(list.count, 300);
     let v = vectors::integer_at(text, next);
     let told = number_told(number(code, &a[0..n], v.magnitude as usize));
-    let answer = is_told(text, if code == 2 { v.next } else { next }, told);
-    answer.right
+    is_answer(text, if code == 2 { v.next } else { next }, told)
 }
 
 fn number(code: u64, a: &[u16], v: usize) -> NumberAnswer {
@@ -88,8 +88,7 @@ fn is_pair_right(code: u64, text: &[u8], at: usize) -> bool {
     if code < 8 {
         return is_write_right(code, &a[0..n], &b[0..m], text, next);
     }
-    let answer = is_told(text, next, pair_told(code, &a[0..n], &b[0..m]));
-    answer.right
+    is_answer(text, next, pair_told(code, &a[0..n], &b[0..m]))
 }
 
 fn is_write_right(code: u64, a: &[u16], b: &[u16], text: &[u8], at: usize) -> bool {
@@ -142,8 +141,7 @@ fn is_mask_right(text: &[u8], at: usize) -> bool {
         (most.magnitude % 65536) as u16,
         &exps[0..k],
     ));
-    let answer = is_told(text, next, told);
-    answer.right
+    is_answer(text, next, told)
 }
 
 fn is_consistency_right(text: &[u8], at: usize) -> bool {
@@ -160,8 +158,7 @@ fn is_consistency_right(text: &[u8], at: usize) -> bool {
         high: d.magnitude,
     };
     let test = monomials::divmask::divides_consistent_with(low, high);
-    let answer = is_told(text, d.next, done(2, test as u64, 0, 0));
-    answer.right
+    is_answer(text, d.next, done(2, test as u64, 0, 0))
 }
 
 fn number_told(answer: NumberAnswer) -> Told {
@@ -217,5 +214,5 @@ fn is_written(answer: WriteAnswer, text: &[u8], at: usize, out: &[u16]) -> bool 
     let told = write_told(answer);
     let number = is_told(text, at, told);
     let output = are_cells(text, output_at(text, number.next, told.number), out);
-    number.right && output.right
+    number.right && output.right && vectors::is_line_end(text, output.next)
 }

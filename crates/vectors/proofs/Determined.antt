@@ -1,6 +1,7 @@
 -- Any two outcomes that a contract of the reader allows are equal.
 -- Assumes nothing.
 use mathlib.Core.Path.{_≡_, sym, _∙_}
+use mathlib.Core.Bool.{Bool}
 use Prim.Native.Nat.{ℕ}
 use contract.Lifetimes.{Lfts}
 use Rattle.vectors.specs.declared.Integer.{Integer}
@@ -9,6 +10,7 @@ use Rattle.vectors.specs.declared.rooms.Compared.{Compared}
 use Rattle.vectors.specs.declared.told.Told.{Told}
 use Rattle.vectors.proofs.integer_at.Reads as integer-at
 use Rattle.vectors.proofs.line_after.Reads as line-after
+use Rattle.vectors.proofs.is_line_end.Reads as is-line-end
 use Rattle.vectors.proofs.rooms.list_at.Reads as list-at
 use Rattle.vectors.proofs.rooms.wiped.Reads as wiped
 use Rattle.vectors.proofs.rooms.at_most.Reads as at-most
@@ -26,6 +28,7 @@ use Rattle.vectors.proofs.asked.cells_asked.Reads as cells-asked
 use Rattle.vectors.proofs.told.refused.Reads as refused
 use Rattle.vectors.proofs.told.done.Reads as done
 use Rattle.vectors.proofs.told.is_told.Reads as is-told
+use Rattle.vectors.proofs.told.is_answer.Reads as is-answer
 use Rattle.vectors.proofs.told.output_at.Reads as output-at
 
 pub integer-at-determined : (κs : Lfts 1) (a : _) (r r′ : Integer) (s s′ : _) → integer-at.Post κs a r s → integer-at.Post κs a r′ s′ → r ≡ r′
@@ -33,6 +36,9 @@ integer-at-determined κs a r r′ s s′ p q = p ∙ sym q
 
 pub line-after-determined : (κs : Lfts 1) (a : _) (r r′ : ℕ) (s s′ : _) → line-after.Post κs a r s → line-after.Post κs a r′ s′ → r ≡ r′
 line-after-determined κs a r r′ s s′ p q = p .0 ∙ sym (q .0)
+
+pub is-line-end-determined : (κs : Lfts 1) (a : _) (r r′ : Bool) (s s′ : _) → is-line-end.Post κs a r s → is-line-end.Post κs a r′ s′ → r ≡ r′
+is-line-end-determined κs a r r′ s s′ p q = p ∙ sym q
 
 pub list-at-determined : (κs : Lfts 1) (a : _) (r r′ : Contents) (s s′ : _) → list-at.Post κs a r s → list-at.Post κs a r′ s′ → r ≡ r′
 list-at-determined κs a r r′ s s′ p q = p ∙ sym q
@@ -86,6 +92,9 @@ done-determined κs a r r′ s s′ p q = p ∙ sym q
 
 pub is-told-determined : (κs : Lfts 1) (a : _) (r r′ : Compared) (s s′ : _) → is-told.Post κs a r s → is-told.Post κs a r′ s′ → r ≡ r′
 is-told-determined κs a r r′ s s′ p q = p ∙ sym q
+
+pub is-answer-determined : (κs : Lfts 1) (a : _) (r r′ : Bool) (s s′ : _) → is-answer.Post κs a r s → is-answer.Post κs a r′ s′ → r ≡ r′
+is-answer-determined κs a r r′ s s′ p q = p ∙ sym q
 
 pub output-at-determined : (κs : Lfts 1) (a : _) (r r′ : Contents) (s s′ : _) → output-at.Post κs a r s → output-at.Post κs a r′ s′ → r ≡ r′
 output-at-determined κs a r r′ s s′ p q = p ∙ sym q

@@ -1,13 +1,13 @@
 // What a call tells, held against a case: the number, after 0 the values, and then the output.
 ghost use mathlib.Core.Path.{_≡_};
 ghost use Rattle.vectors.specs.Rooms.{compared};
-ghost use Rattle.vectors.specs.Told.{refusedBy, doneWith, toldAt, toldWords, outputAt};
+ghost use Rattle.vectors.specs.Told.{refusedBy, doneWith, toldAt, toldWords, answered, outputAt};
+use crate::is_line_end;
 use crate::rooms::Compared;
 use crate::rooms::Contents;
 use crate::rooms::are_words;
 use crate::rooms::at_most;
 use crate::rooms::list_at;
-use crate::rooms::wiped;
 
 // The first `count` of the number and three values.
 pub struct Told {
@@ -58,6 +58,14 @@ pub fn is_told(text: &[u8], at: usize, told: Told) -> Compared
     are_words(text, contents, &words[0..k])
 }
 
+// Whether the integers from `at` to the end of the line are those told.
+pub fn is_answer(text: &[u8], at: usize, told: Told) -> bool
+    ensures { λ r. ⌜ r ≡ answered (now (text .entry)) at told ⌝ }
+{
+    let answer = is_told(text, at, told);
+    answer.right && is_line_end(text, answer.next)
+}
+
 // The output that follows at `at`: after 0 it is listed, and else it holds what it held.
 pub fn output_at(text: &[u8], at: usize, number: u64) -> Contents
     ensures { λ r. ⌜ r ≡ outputAt (now (text .entry)) at number ⌝ }
@@ -65,6 +73,10 @@ pub fn output_at(text: &[u8], at: usize, number: u64) -> Contents
     if number == 0 {
         list_at(text, at)
     } else {
-        wiped(0)
+        Contents {
+            at,
+            count: 0,
+            zeros: 0,
+        }
     }
 }

@@ -8,8 +8,7 @@ output-at-spec =
     tie.close
     (tie.spec
     (λ c κs. search needs)
-    (λ c κs. search needs)
     -- returns
     (λ c. rw (eq-eqb _ _ (c .before .if1 .taken)) (c .list-at .ensures))
     -- returns-2
-    (λ c. rw (ne-eqb _ _ (c .before .if1 .left)) (c .wiped .ensures)))
+    (λ c. rw (ne-eqb _ _ (c .if1 .left))))
