@@ -89,11 +89,11 @@ module _ (n s m : ℕ) (cells places : List ℕ) (h : length cells ≡ s * n) (g
 
 module _ (C : ℕ) (rec : List ℕ) where
   -- bytes that are no record are refused first
-  no-record : (cs : List Check) → isRecord C rec ≡ false → refusal (notRecord C rec ∷ cs) ≡ some Record
+  pub no-record : (cs : List Check) → isRecord C rec ≡ false → refusal (notRecord C rec ∷ cs) ≡ some Record
   no-record cs e = ap (λ (t : Bool). cond (not t) (some Record) (refusal cs)) e
 
   -- else the other checks decide
-  a-record : (cs : List Check) → isRecord C rec ≡ true → refusal (notRecord C rec ∷ cs) ≡ refusal cs
+  pub a-record : (cs : List Check) → isRecord C rec ≡ true → refusal (notRecord C rec ∷ cs) ≡ refusal cs
   a-record cs e = ap (λ (t : Bool). cond (not t) (some Record) (refusal cs)) e
 
   module _ (k : ℕ) where

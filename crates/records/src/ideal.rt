@@ -19,7 +19,10 @@ ghost use Rattle.records.specs.Rows.{rowsAt, Below, headerStands};
 ghost use Rattle.records.specs.Ideal.{writeAnswer, writeBytes, placeAnswer, placePart, copyAnswer, copyCells};
 
 // The exponents of a record with the greatest width and count.
-const MAX_CELLS: usize = MAX_WIDTH * MAX_COUNT;
+pub(crate) const MAX_CELLS: usize = MAX_WIDTH * MAX_COUNT;
+
+// The bytes of that record.
+pub const MAX_RECORD: usize = 7 + 2 * MAX_CELLS;
 
 // A size in bytes, or why there is none.
 pub enum SizeOutcome {

@@ -2,5 +2,6 @@
 pub mod answer;
 mod bytes;
 mod choice;
+pub mod host;
 pub mod ideal;
 mod rows;

@@ -1,0 +1,2 @@
+-- What the program `dim` writes.
+pub mod Dim

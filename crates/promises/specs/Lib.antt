@@ -1,0 +1,3 @@
+-- The words in which the promises are stated.
+pub mod Promise
+pub mod Stars

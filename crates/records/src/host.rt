@@ -1,0 +1,113 @@
+// The call behind the program `dim` and the host in C: an ideal record's bytes in, an answer record out. The list and the rooms are the
+// call's own, so it takes the stack that they need.
+use crate::answer::ANSWER_SIZE;
+use crate::answer::write_answer;
+use crate::ideal::CheckAnswer;
+use crate::ideal::CheckOutcome;
+use crate::ideal::CopyOutcome;
+use crate::ideal::MAX_CELLS;
+use crate::ideal::copy_record;
+use monomials::refusal::MAX_COUNT;
+use monomials::refusal::MAX_WIDTH;
+use monomials::refusal::Refusal;
+use monomials::refusal::number_of;
+use numbers::dimension::DimensionAnswer;
+use numbers::dimension::DimensionOutcome;
+use numbers::dimension::quotient_dimension;
+use numbers::hf_at::MAX_DEGREE;
+use numbers::wide::Wide;
+ghost use mathlib.Core.Path.{_≡_};
+ghost use mathlib.Core.List.{_++_};
+ghost use Prim.Native.Nat.{_≤_};
+ghost use lib.ListN.{length, drop};
+ghost use Rattle.numbers.specs.Dimension.{dimensionAnswer};
+ghost use Rattle.records.specs.Host.{ownCells, ownCoefficients, ownWords, hostAnswer, hostNumber, hostBytes};
+ghost use Rattle.records.specs.HostParts.{recordAnswer, TopFits, toldAs, toldBytes};
+
+// The exponent cells of the call's own room.
+const CELL_ROOM: usize = 16384;
+
+// The coefficients of each of its two coefficient rooms.
+const COEFFICIENT_ROOM: usize = 4096;
+
+// The words of its sum room.
+const SUM_ROOM: usize = 4096;
+
+// Writes the answer record of an ideal record: the dimension and the top degree of what it lists, or the number of what is refused. Past it
+// the output is kept, and an output with too few bytes is left as it is.
+pub fn answer_record(rec: &[u8], out: &mut [u8]) -> CheckAnswer
+    ensures { λ r. do ⌜ r ≡ hostAnswer (← ⟦MAX_WIDTH⟧ .entry) (← ⟦MAX_COUNT⟧ .entry) (← ⟦MAX_DEGREE⟧ .entry) (← ⟦ANSWER_SIZE⟧ .entry) (now (rec .entry)) (now (out .entry)) ⌝ }
+    ensures { λ _. do ⌜ now (out .exit) ≡ hostBytes (← ⟦MAX_WIDTH⟧ .entry) (← ⟦MAX_COUNT⟧ .entry) (← ⟦MAX_DEGREE⟧ .entry) (← ⟦ANSWER_SIZE⟧ .entry) (now (rec .entry)) (now (out .entry)) ⌝ }
+{
+    if out.len() < ANSWER_SIZE {
+        return CheckAnswer {
+            outcome: CheckOutcome::Refused(Refusal::Output),
+        };
+    }
+    tell(dimension_of(rec), out)
+}
+
+// The same for a host in C, which is told the number.
+#[no_mangle]
+pub extern "C" fn purlthicket_dim(rec: &[u8], out: &mut [u8]) -> u8
+    ensures { λ r. do ⌜ r ≡ hostNumber (← ⟦MAX_WIDTH⟧ .entry) (← ⟦MAX_COUNT⟧ .entry) (← ⟦MAX_DEGREE⟧ .entry) (← ⟦ANSWER_SIZE⟧ .entry) (now (rec .entry)) (now (out .entry)) ⌝ }
+    ensures { λ _. do ⌜ now (out .exit) ≡ hostBytes (← ⟦MAX_WIDTH⟧ .entry) (← ⟦MAX_COUNT⟧ .entry) (← ⟦MAX_DEGREE⟧ .entry) (← ⟦ANSWER_SIZE⟧ .entry) (now (rec .entry)) (now (out .entry)) ⌝ }
+{
+    let outcome = answer_record(rec, out).outcome;
+    match outcome {
+        CheckOutcome::Done => 0,
+        CheckOutcome::Refused(refusal) => number_of(refusal),
+    }
+}
+
+// The dimension of what the record lists, or what is refused.
+fn dimension_of(rec: &[u8]) -> DimensionAnswer
+    ensures { λ r. do ⌜ r ≡ recordAnswer (← ⟦MAX_WIDTH⟧ .entry) (← ⟦MAX_COUNT⟧ .entry) (← ⟦MAX_DEGREE⟧ .entry) (now (rec .entry)) ⌝ }
+{
+    let mut cells = [0u16; MAX_CELLS];
+    let outcome = copy_record(rec, &mut cells).outcome;
+    match outcome {
+        CopyOutcome::Value(shape) => {
+            let n = shape.n;
+            let m = shape.m;
+            let end = m * n;
+            in_own_rooms(n, m, &cells[0..end])
+        }
+        CopyOutcome::Refused(refusal) => DimensionAnswer {
+            outcome: DimensionOutcome::Refused(refusal),
+        },
+    }
+}
+
+fn in_own_rooms(n: usize, m: usize, cells: &[u16]) -> DimensionAnswer
+    ensures { λ r. do ⌜ r ≡ dimensionAnswer (← ⟦MAX_WIDTH⟧ .entry) (← ⟦MAX_COUNT⟧ .entry) (← ⟦MAX_DEGREE⟧ .entry) n m (now (cells .entry)) ownCells ownCoefficients ownCoefficients ownWords ⌝ }
+{
+    let mut room = [0u16; CELL_ROOM];
+    let mut first = [0i64; COEFFICIENT_ROOM];
+    let mut second = [0i64; COEFFICIENT_ROOM];
+    let mut sums = [0u64; SUM_ROOM];
+    quotient_dimension(n, m, cells, &mut room, &mut first, &mut second, &mut sums)
+}
+
+// Writes the answer record that carries the answer.
+fn tell(answer: DimensionAnswer, out: &mut [u8]) -> CheckAnswer
+    requires { do ⌜ TopFits answer × ((← ⟦ANSWER_SIZE⟧) ≤ length (now out)) ⌝ }
+    ensures { λ r. ⌜ r ≡ toldAs answer ⌝ }
+    ensures { λ _. do ⌜ now (out .exit) ≡ toldBytes answer ++ drop (← ⟦ANSWER_SIZE⟧ .entry) (now (out .entry)) ⌝ }
+{
+    let outcome = answer.outcome;
+    match outcome {
+        DimensionOutcome::Value(d) => {
+            write_answer(0, d.dimension, d.top as u32, out);
+            CheckAnswer {
+                outcome: CheckOutcome::Done,
+            }
+        }
+        DimensionOutcome::Refused(refusal) => {
+            write_answer(number_of(refusal), Wide::ZERO, 0, out);
+            CheckAnswer {
+                outcome: CheckOutcome::Refused(refusal),
+            }
+        }
+    }
+}
