@@ -4,15 +4,13 @@
 -- (`first-exactly`); `After` says what a slice holds. Calls that are not named here have no refusal to tell.
 -- Assumes nothing.
 use mathlib.Core.Path.{_≡_, refl, sym, ap, _∙_}
-use mathlib.Core.Logic.{_≢_, _↔_, _⊎_, inl, inr}
-use mathlib.Core.Bool.{Bool, true, false, not, cond}
+use mathlib.Core.Logic.{_≢_, _⊎_}
+use mathlib.Core.Bool.{false, not, cond}
 use mathlib.Core.List.{List, [], _∷_, _++_}
 use Prim.Native.Nat.{ℕ, _+_, _*_, _^_, _≤_, _<_}
-use native.Mathlib.Omega.{arith}
 use lib.Dec.{leb, ltb, eqb, lit<, lit≤}
 use lib.IntN.{ℤ, pos, natAbs}
 use lib.ListN.{length, drop}
-use borrow.Author.Tests.{lt-ltb, le-ltb}
 use contract.Lifetimes.{Lfts}
 use Rattle.laws.specs.Coefficients.{coefficient}
 use Rattle.laws.specs.Dimension.{leastPower, degreeBound, powersProduct, dimension, topDegree}
@@ -26,9 +24,8 @@ use Rattle.laws.specs.Room.{cellsAsked, coefficientsAsked, updateAsked}
 use Rattle.laws.specs.Order.{lex, degrevlex}
 use Rattle.monomials.specs.Mask.{ofWords}
 use Rattle.monomials.specs.Monomial.{atMost, pairChecks, writeChecks, powerChecks, productChecks, quotientChecks}
-use Rattle.monomials.specs.Refusal.{number, refusal, after, tooWide}
-use Rattle.monomials.specs.declared.refusal.Refusal.{Refusal}
-use Rattle.monomials.specs.declared.refusal.Refusal.the-variants.{Width, Place, Exponent, Division, SumRoom, Degree, Value, Record, Output}
+use Rattle.monomials.specs.Refusal.{refusal, tooWide}
+use Rattle.monomials.specs.declared.refusal.Refusal.the-variants.{Place, Exponent, Division, Record, Output}
 use Rattle.monomials.specs.declared.divmask.MaskAnswer.{MaskAnswer}
 use Rattle.monomials.specs.declared.monomial.NumberAnswer.{NumberAnswer}
 use Rattle.monomials.specs.declared.monomial.WriteAnswer.{WriteAnswer}
@@ -49,7 +46,7 @@ use Rattle.monomials.proofs.divmask.mask.Reads as mask_of
 use Rattle.numbers.specs.Dimension.{atOnce, boundChecks, roomChecks, dimensionChecks}
 use Rattle.numbers.specs.Hilbert.{hilbertChecks}
 use Rattle.numbers.specs.Wide.{value}
-use Rattle.numbers.specs.Numerator.{wiped, padded, listChecks, cellRoom, coefficientRooms, numeratorChecks}
+use Rattle.numbers.specs.Numerator.{wiped, padded, numeratorChecks}
 use Rattle.numbers.specs.Update.{updateChecks}
 use Rattle.numbers.specs.declared.dimension.DimensionAnswer.{DimensionAnswer}
 use Rattle.numbers.specs.declared.hf_at.SignedAnswer.{SignedAnswer}
@@ -59,7 +56,7 @@ use Rattle.numbers.proofs.numerator.hilbert_numerator.Reads as hilbert_numerato
 use Rattle.numbers.proofs.update.add_generators.Reads as add_generators
 use Rattle.numbers.proofs.hf_at.hf_at.Reads as hf_at
 use Rattle.numbers.proofs.dimension.quotient_dimension.Reads as quotient_dimension
-use Rattle.records.specs.Answer.{answerChecks, answerOf, answerBytes}
+use Rattle.records.specs.Answer.{answerChecks, answerOf}
 use Rattle.records.specs.Host.{ownCells, ownCoefficients, ownWords, recordChecks, hostChecks, status}
 use Rattle.records.specs.Ideal.{writeChecks as writeRecordChecks, placeChecks, copyChecks}
 use Rattle.records.specs.declared.ideal.SizeAnswer.{SizeAnswer}
@@ -77,14 +74,9 @@ use Rattle.bridge.specs.Monomials.{ofNumber, ofWrite, ofTest, ofOrder, ofMask}
 use Rattle.bridge.specs.Numbers.{ofSigned, ofLength, ofDimension}
 use Rattle.bridge.specs.Records.{ofSize, ofCheck, ofCopy}
 use Rattle.promises.specs.Promise.{Slice, _⨾_, Rule, First, After}
-use Rattle.promises.proofs.Checks.{Means, too-many, cons-first, list-first, early-first, above, reaches, differs, equals, fails, twice, either, product-above, not-divides, coefficient-beyond, unit-in, no-dimension}
+use Rattle.promises.proofs.Checks.{too-many, cons-first, list-first, early-first, above, reaches, differs, equals, fails, twice, either, product-above, not-divides, coefficient-beyond, unit-in, no-dimension}
+use Rattle.promises.proofs.Means.{rooms-means, write-means, last-means, pair-means, sums-left, host-kept, host-written}
 use Rattle.promises.proofs.Answers.{told-first, told-after, number-kind, write-kind, test-kind, order-kind, mask-kind, signed-kind, length-kind, dimension-kind, size-kind, check-kind, copy-kind}
-
--- what checks 7 and 8 say
-rooms-means : (c k : ℕ) (room : List ℕ) (p q : List ℤ)
-    → Means (cellRoom c room ∷ coefficientRooms k p q ∷ []) ((length room < c, 7) ∷ ((length p < k) ⊎ (length q < k), 8) ∷ [])
-rooms-means c k room p q =
-    (above (length room) c, (refl, (either (ltb (length p) k) (ltb (length q) k) (above (length p) k) (above (length q) k), (refl, tt))))
 
 -- "Monomials: 1, 3, 4, 5, 6, as they apply; the width is the number given, or else the first monomial's length. Masks: 1 only."
 
@@ -106,16 +98,6 @@ power-of κs n v x out r out′ p =
       told-first write-kind cs (p .0) (above 255 n, (refl, (differs (length (out .now)) n, (refl, (reaches n v, (refl, tt)))))),
       told-after write-kind (refusal cs) (p .0) (p .1),
     )
-
--- what checks 1 and 3 of two monomials and an output say
-write-means : (a b out : List ℕ) → Means (writeChecks 255 a b out) ((255 < length a, 1) ∷ (length b ≢ length a, 3) ∷ (length out ≢ length a, 3) ∷ [])
-write-means a b out = (above 255 (length a), (refl, (differs (length b) (length a), (refl, (differs (length out) (length a), (refl, tt))))))
-
--- and with one check more
-last-means : {P : Type 0} (a b out : List ℕ) (t : Bool) (q : Refusal) → (t ≡ true) ↔ P
-    → Means (writeChecks 255 a b out ++ (t, q) ∷ []) ((255 < length a, 1) ∷ (length b ≢ length a, 3) ∷ (length out ≢ length a, 3) ∷ (P, number q) ∷ [])
-last-means a b out t q f =
-    (above 255 (length a), (refl, (differs (length b) (length a), (refl, (differs (length out) (length a), (refl, (f, (refl, tt))))))))
 
 pub product-of : (κs : Lfts 3) (a b out : Slice ℕ) (r : WriteAnswer) (out′ : Slice ℕ) → product_of.Post κs (a ⨾ b ⨾ out ⨾ tt) r (a ⨾ b ⨾ out′ ⨾ tt)
     → First
@@ -162,10 +144,6 @@ gcd-of κs a b out r out′ p =
       told-first write-kind cs (p .0) (write-means (a .now) (b .now) (out .now)),
       told-after write-kind (refusal cs) (p .0) (p .1),
     )
-
--- what checks 1 and 3 of two monomials say
-pair-means : (a b : List ℕ) → Means (pairChecks 255 a b) ((255 < length a, 1) ∷ (length b ≢ length a, 3) ∷ [])
-pair-means a b = (above 255 (length a), (refl, (differs (length b) (length a), (refl, tt))))
 
 pub divides-of : (κs : Lfts 2) (a b : Slice ℕ) (r : TestAnswer) → divides_of.Post κs (a ⨾ b ⨾ tt) r (a ⨾ b ⨾ tt)
     → First ((255 < length (a .now), 1) ∷ (length (b .now) ≢ length (a .now), 3) ∷ []) (numberIn (ofTest r))
@@ -243,16 +221,6 @@ module _ (κs : Lfts 6) (n : ℕ) (given : Slice ℤ) (s0 : ℕ) (existing : Sli
         told-after (length-kind j) (refusal cs) (outcome .0) (outcome .1 .1 .0),
         told-after (length-kind j) (refusal cs) (outcome .0) (outcome .1 .1 .1),
       )
-
--- what `hf_at` leaves in the sum room, by its four checks
-sums-left : (a b c t : Bool) (w y x : List ℕ) → w ≡ after (refusal ((a, Width) ∷ (b, Degree) ∷ (c, SumRoom) ∷ [])) y x
-    → let k = status (refusal ((a, Width) ∷ (b, Degree) ∷ (c, SumRoom) ∷ (t, Value) ∷ [])) in
-    ((k ≡ 0) ⊎ (k ≡ 11) → w ≡ y) × (k ≢ 0 → k ≢ 11 → w ≡ x)
-sums-left true b c t w y x e = (λ h. absurd (elim h [ inl p ↦ omega arith | inr p ↦ omega arith ]), λ h g. e)
-sums-left false true c t w y x e = (λ h. absurd (elim h [ inl p ↦ omega arith | inr p ↦ omega arith ]), λ h g. e)
-sums-left false false true t w y x e = (λ h. absurd (elim h [ inl p ↦ omega arith | inr p ↦ omega arith ]), λ h g. e)
-sums-left false false false true w y x e = (λ h. e, λ h g. absurd (g refl))
-sums-left false false false false w y x e = (λ h. e, λ h g. absurd (h refl))
 
 -- "hf_at: 1, 10, 9, 11." The first exception: "the sum room after 11 of `hf_at`, zero in its asked part".
 module _ (κs : Lfts 2) (n : ℕ) (given : Slice ℤ) (d : ℕ) (sums : Slice ℕ) (r : SignedAnswer) (sums′ : Slice ℕ)
@@ -380,13 +348,6 @@ host-first rec out =
     (no-dimension 65536 n L, (refl, (reaches (2 ^ 127) (powersProduct n L), (refl, (above 16384 (cellsAsked n L), (refl, (twice (ltb 4096 (coefficientsAsked L)) (above 4096 (coefficientsAsked L)), (refl, (above 4096 (2 * (degreeBound n L + 1)), (refl, tt)))))))))))))
 
 -- The second exception: "after 14 nothing is written, after any other refusal the answer record carries it", with both numbers 0.
-module _ (rec out out′ : List ℕ) (k : ℕ) (e : out′ ≡ answerBytes 26 k (dimension (widthIn rec) (listIn rec)) (topDegree (widthIn rec) (listIn rec)) out) where
-  host-kept : length out < 26 → out′ ≡ out
-  host-kept h = e ∙ rw (lt-ltb (length out) 26 h)
-
-  host-written : 26 ≤ length out → out′ ≡ answerOf k (dimension (widthIn rec) (listIn rec)) (topDegree (widthIn rec) (listIn rec)) ++ drop 26 out
-  host-written h = e ∙ ap (λ (t : Bool). after (refusal ((t, Output) ∷ [])) (answerOf k (dimension (widthIn rec) (listIn rec)) (topDegree (widthIn rec) (listIn rec)) ++ drop 26 out) out) (le-ltb (length out) 26 h)
-
 module _ (κs : Lfts 2) (rec out : Slice ℕ) (r : CheckAnswer) (out′ : Slice ℕ) (outcome : «answer_record».Post κs (rec ⨾ out ⨾ tt) r (rec ⨾ out′ ⨾ tt)) where
   pub answer-record : let n = widthIn (rec .now) in let L = listIn (rec .now) in let k = numberIn (ofCheck r 0) in
       First (hostRules (rec .now) (out .now)) k
