@@ -4,7 +4,7 @@
 --   told-first        so its number is that of the first rule that holds
 --   told-after        and it tells what a lent slice holds
 -- Assumes nothing.
-use mathlib.Core.Path.{_≡_, refl, ap}
+use mathlib.Core.Path.{_≡_, refl}
 use mathlib.Core.Bool.{Bool}
 use mathlib.Core.List.{List}
 use mathlib.Core.Option.{Option, none, some}

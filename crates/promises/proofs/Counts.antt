@@ -8,7 +8,7 @@
 --   host-counts                       purlthicket_dim
 -- Assumes nothing.
 use mathlib.Core.Path.{_≡_, refl, sym, ap, _∙_}
-use mathlib.Core.Logic.{_≢_, _⊎_, inl, inr}
+use mathlib.Core.Logic.{_⊎_, inl, inr}
 use mathlib.Core.Bool.{Bool, true, false, not, _&&_, _||_, cond, false≢true}
 use mathlib.Core.List.{List, [], _∷_, _++_, append-assoc}
 use mathlib.Core.Option.{Option, none, some}
@@ -23,7 +23,7 @@ use contract.Lifetimes.{Lfts}
 use borrow.Author.Tests.{ltb-false, leb-false, eqb-true, eqb-false, not-false}
 use Rattle.laws.specs.Coefficients.{Trimmed, coefficient}
 use Rattle.laws.specs.Count.{bit, occurrences, monomials, HF}
-use Rattle.laws.specs.Dimension.{leastPower, finite, degreeBound, powersProduct, standards, dimension, topDegree}
+use Rattle.laws.specs.Dimension.{finite, degreeBound, powersProduct, standards, dimension, topDegree}
 use Rattle.laws.specs.Hilbert.{hilbert, hilbertSize}
 use Rattle.laws.specs.Ideal.{listed, Within, multiple, unitIn}
 use Rattle.laws.specs.Monomial.{degree}

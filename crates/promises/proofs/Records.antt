@@ -10,7 +10,7 @@ use mathlib.Core.Logic.{_≢_, _↔_}
 use mathlib.Core.Bool.{Bool, true, false, not, _&&_, false≢true}
 use mathlib.Core.List.{List, [], _∷_, _++_}
 use mathlib.Core.Option.{Option, none, some}
-use Prim.Native.Nat.{ℕ, _+_, _*_, _≤_, _<_}
+use Prim.Native.Nat.{ℕ, _+_, _*_, _≤_}
 use native.Mathlib.Omega.{arith}
 use lib.Dec.{leb, ltb, eqb}
 use lib.ListN.{length, take, drop}
@@ -27,7 +27,7 @@ use Rattle.laws.proofs.Minimal.{minimal-same, minimal-shortest, minimal-falling
 use Rattle.laws.proofs.Monomial.{and-left, and-right}
 use Rattle.laws.proofs.Reading.{listed-small, record-again, record-list, record-is}
 use Rattle.laws.proofs.Record.{record-same, record-length}
-use Rattle.monomials.specs.Refusal.{number, Check, refusal, after}
+use Rattle.monomials.specs.Refusal.{number, refusal, after}
 use Rattle.monomials.specs.declared.refusal.Refusal.{Refusal}
 use Rattle.monomials.specs.declared.refusal.Refusal.the-variants.{Width as TooWide, Count, Cells, Place, Record, Output}
 use Rattle.records.specs.Host.{status}

@@ -10,7 +10,7 @@ use mathlib.Core.List.{List, [], _∷_, _++_}
 use Prim.Native.Nat.{ℕ, _+_, _*_, _^_, _≤_, _<_}
 use lib.Dec.{leb, ltb, eqb, lit<, lit≤}
 use lib.IntN.{ℤ, pos, natAbs}
-use lib.ListN.{length, drop}
+use lib.ListN.{length, getD, drop}
 use contract.Lifetimes.{Lfts}
 use Rattle.laws.specs.Coefficients.{coefficient}
 use Rattle.laws.specs.Dimension.{leastPower, degreeBound, powersProduct, dimension, topDegree}
@@ -22,6 +22,7 @@ use Rattle.laws.specs.Numerator.{numerator, update}
 use Rattle.laws.specs.Record.{idealRecord, isRecord, widthIn, countIn, exponentsIn, listIn, partOf}
 use Rattle.laws.specs.Room.{cellsAsked, coefficientsAsked, updateAsked}
 use Rattle.laws.specs.Order.{lex, degrevlex}
+use Rattle.laws.proofs.Reading.{bytes-by}
 use Rattle.monomials.specs.Mask.{ofWords}
 use Rattle.monomials.specs.Monomial.{atMost, pairChecks, writeChecks, powerChecks, productChecks, quotientChecks}
 use Rattle.monomials.specs.Refusal.{refusal, tooWide}
@@ -66,6 +67,7 @@ use Rattle.records.proofs.ideal.write_record.Reads as «write_record»
 use Rattle.records.proofs.ideal.check_place.Reads as check_place
 use Rattle.records.proofs.ideal.place.Reads as place_of
 use Rattle.records.proofs.ideal.copy_record.Reads as «copy_record»
+use Rattle.records.proofs.Statuses.{status-written, status-never}
 use Rattle.records.proofs.answer.write_answer.Reads as write_answer
 use Rattle.records.proofs.host.answer_record.Reads as «answer_record»
 use Rattle.records.proofs.host.purlthicket_dim.Reads as purlthicket_dim
@@ -73,7 +75,7 @@ use Rattle.bridge.specs.Told.{numberIn}
 use Rattle.bridge.specs.Monomials.{ofNumber, ofWrite, ofTest, ofOrder, ofMask}
 use Rattle.bridge.specs.Numbers.{ofSigned, ofLength, ofDimension}
 use Rattle.bridge.specs.Records.{ofSize, ofCheck, ofCopy}
-use Rattle.promises.specs.Promise.{Slice, _⨾_, Rule, First, After}
+use Rattle.promises.specs.Promise.{Slice, _⨾_, Rule, First, After, Below}
 use Rattle.promises.proofs.Checks.{too-many, cons-first, list-first, early-first, above, reaches, differs, equals, fails, twice, either, product-above, not-divides, coefficient-beyond, unit-in, no-dimension}
 use Rattle.promises.proofs.Means.{rooms-means, write-means, last-means, pair-means, sums-left, host-kept, host-written}
 use Rattle.promises.proofs.Answers.{told-first, told-after, number-kind, write-kind, test-kind, order-kind, mask-kind, signed-kind, length-kind, dimension-kind, size-kind, check-kind, copy-kind}
@@ -366,6 +368,13 @@ module _ (κs : Lfts 2) (rec out : Slice ℕ) (r : ℕ) (out′ : Slice ℕ) (ou
   purlthicket-dim =
       let k = status (refusal (hostChecks 255 60 65536 26 (rec .now) (out .now))) in
       rw (outcome .0) (host-first (rec .now) (out .now), host-kept (rec .now) (out .now) (out′ .now) k (outcome .1), host-written (rec .now) (out .now) (out′ .now) k (outcome .1))
+
+  -- A record has a width below 256, at most 60 monomials and all their exponents: where the answer record is written, its status, byte 5, is
+  -- the number, and is never 1, 2, 3 or 14.
+  pub host-status : Below 256 (rec .now) → 26 ≤ length (out .now) → let k = getD (out′ .now) 5 0 in (k ≡ r) × (k ≢ 1) × (k ≢ 2) × (k ≢ 3) × (k ≢ 14)
+  host-status bytes room =
+      let (a, b, c, d) = status-never 255 60 65536 26 (rec .now) (out .now) room (bytes-by (rec .now) (λ i l. bytes i)) (lit≤ tt) in
+      rw (outcome .1) (status-written 255 60 65536 26 (rec .now) (out .now) room ∙ sym (outcome .0), a, b, c, d)
 
 -- No product is formed that could wrap: s = 2^63 with n = 2 is 2, whatever the cells, and so are 2^63 existing and 2^63 new monomials
 

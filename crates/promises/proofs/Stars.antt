@@ -4,7 +4,7 @@
 use mathlib.Core.Path.{_≡_, refl, sym, ap, ap₂, subst, _∙_}
 use mathlib.Core.Bool.{Bool, true, false, not, _&&_, _||_, false≢true}
 use mathlib.Core.List.{List, [], _∷_, _++_, append-assoc}
-use mathlib.Core.Option.{Option, none, some}
+use mathlib.Core.Option.{Option, none}
 use Prim.Native.Nat.{ℕ, zero, suc, _+_, _*_, _-_, _^_, _≤_, _<_}
 use native.Mathlib.Omega.{arith}
 use lib.Dec.{leb, ltb, eqb}
@@ -15,7 +15,7 @@ use borrow.Author.Tests.{leb-true, le-ltb, lt-leb, ltb-true, eqb-true, eq-eqb, n
 use contract.Lifetimes.{Lfts}
 use Rattle.laws.specs.Coefficients.{first as firstOf}
 use Rattle.laws.specs.Count.{equal, HF}
-use Rattle.laws.specs.Dimension.{finite, degreeBound, powersProduct, dimension, topDegree}
+use Rattle.laws.specs.Dimension.{degreeBound, powersProduct, dimension, topDegree}
 use Rattle.laws.specs.Hilbert.{hilbert, hilbertSize}
 use Rattle.laws.specs.Ideal.{listed}
 use Rattle.laws.specs.Numerator.{numerator, update}
@@ -23,7 +23,7 @@ use Rattle.laws.specs.Record.{idealRecord, widthIn, listIn}
 use Rattle.laws.specs.Room.{pairs, cellsAsked, coefficientsAsked, updateAsked}
 use Rattle.laws.proofs.Enumeration.{equal-eq}
 use Rattle.laws.proofs.Monomial.{and-left, and-right}
-use Rattle.monomials.specs.Refusal.{Check, refusal, after}
+use Rattle.monomials.specs.Refusal.{refusal, after}
 use Rattle.monomials.specs.declared.refusal.Refusal.{Refusal}
 use Rattle.monomials.specs.declared.refusal.Refusal.the-variants.{Output}
 use Rattle.numbers.specs.Dimension.{atOnce, noDimension, dimensionIs, dimensionChecks, dimensionAnswer}
@@ -35,7 +35,6 @@ use Rattle.numbers.specs.declared.dimension.DimensionAnswer.{DimensionAnswer}
 use Rattle.numbers.specs.declared.hf_at.SignedAnswer.{SignedAnswer}
 use Rattle.numbers.specs.declared.numerator.LengthOutcome.{LengthOutcome}
 use Rattle.numbers.specs.declared.numerator.LengthAnswer.{LengthAnswer}
-use Rattle.numbers.proofs.numerator.hilbert_numerator.Reads as hilbert_numerator
 use Rattle.records.specs.Answer.{answerOf as answerBytesOf}
 use Rattle.records.specs.Host.{recordChecks, hostChecks, hostNumber, status}
 use Rattle.records.specs.Ideal.{notRecord, writeChecks, writeAnswer, writeBytes}
