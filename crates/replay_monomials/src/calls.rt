@@ -1,9 +1,4 @@
 // Each call on the arguments of one case, held against the number, the values and the output that the case gives.
-use crate::text::is_list;
-use crate::text::is_untouched;
-use crate::text::lent;
-use crate::text::prepare;
-use crate::text::read_list;
 use monomials::divmask::DivMask;
 use monomials::divmask::MaskAnswer;
 use monomials::divmask::MaskOutcome;
@@ -16,24 +11,25 @@ use monomials::monomial::TestAnswer;
 use monomials::monomial::TestOutcome;
 use monomials::monomial::WriteAnswer;
 use monomials::monomial::WriteOutcome;
-use monomials::refusal::Refusal;
 use monomials::refusal::number_of;
-
-// A call's number, and the values that come with 0.
-struct Told {
-    number: u8,
-    values: u8,
-    first: u64,
-    second: u64,
-}
+use vectors::rooms::are_cells;
+use vectors::rooms::at_most;
+use vectors::rooms::list_at;
+use vectors::rooms::put_cells;
+use vectors::rooms::wiped;
+use vectors::told::Told;
+use vectors::told::done;
+use vectors::told::is_answer;
+use vectors::told::is_told;
+use vectors::told::output_at;
+use vectors::told::refused;
 
 // Whether the call does what the case says, whose arguments start at `at`.
 pub fn is_right(code: u64, text: &[u8], at: usize) -> bool {
     match code {
         1 | 2 => is_number_right(code, text, at),
         3 => is_power_right(text, at),
-        4..=7 => is_write_right(code, text, at),
-        8..=11 => is_pair_right(code, text, at),
+        4..=11 => is_pair_right(code, text, at),
         12 => is_mask_right(text, at),
         13 => is_consistency_right(text, at),
         _ => false,
@@ -41,22 +37,20 @@ pub fn is_right(code: u64, text: &[u8], at: usize) -> bool {
 }
 
 fn is_number_right(code: u64, text: &[u8], at: usize) -> bool {
+    let list = list_at(text, at);
     let mut a = [0u16; 300];
-    let list = read_list(text, at, &mut a);
-    let n = list.count;
+    let next = put_cells(text, list, &mut a);
+    let n = at_most(list.count, 300);
+    let v = vectors::integer_at(text, next);
+    let told = number_told(number(code, &a[0..n], v.magnitude as usize));
+    is_answer(text, if code == 2 { v.next } else { next }, told)
+}
+
+fn number(code: u64, a: &[u16], v: usize) -> NumberAnswer {
     if code == 1 {
-        return is_told(
-            number_told(monomials::monomial::total_degree(&a[0..n])),
-            text,
-            list.next,
-        );
+        return monomials::monomial::total_degree(a);
     }
-    let v = vectors::integer_at(text, list.next);
-    is_told(
-        number_told(monomials::monomial::exponent(&a[0..n], v.magnitude as usize)),
-        text,
-        v.next,
-    )
+    monomials::monomial::exponent(a, v)
 }
 
 fn is_power_right(text: &[u8], at: usize) -> bool {
@@ -65,8 +59,8 @@ fn is_power_right(text: &[u8], at: usize) -> bool {
     let x = vectors::integer_at(text, v.next);
     let size = vectors::integer_at(text, x.next);
     let mut room = [0u16; 300];
-    prepare(&mut room);
-    let k = lent(text, x.next, &room);
+    put_cells(text, wiped(0), &mut room);
+    let k = at_most(size.magnitude, 300);
     is_power_written(
         n.magnitude as usize,
         v.magnitude as usize,
@@ -82,18 +76,27 @@ fn is_power_written(n: usize, v: usize, x: u16, out: &mut [u16], text: &[u8], at
     is_written(answer, text, at, out)
 }
 
-fn is_write_right(code: u64, text: &[u8], at: usize) -> bool {
+fn is_pair_right(code: u64, text: &[u8], at: usize) -> bool {
+    let first = list_at(text, at);
     let mut a = [0u16; 300];
-    let first = read_list(text, at, &mut a);
+    let between = put_cells(text, first, &mut a);
+    let second = list_at(text, between);
     let mut b = [0u16; 300];
-    let second = read_list(text, first.next, &mut b);
-    let size = vectors::integer_at(text, second.next);
+    let next = put_cells(text, second, &mut b);
+    let n = at_most(first.count, 300);
+    let m = at_most(second.count, 300);
+    if code < 8 {
+        return is_write_right(code, &a[0..n], &b[0..m], text, next);
+    }
+    is_answer(text, next, pair_told(code, &a[0..n], &b[0..m]))
+}
+
+fn is_write_right(code: u64, a: &[u16], b: &[u16], text: &[u8], at: usize) -> bool {
+    let size = vectors::integer_at(text, at);
     let mut room = [0u16; 300];
-    prepare(&mut room);
-    let n = first.count;
-    let m = second.count;
-    let k = lent(text, second.next, &room);
-    is_pair_written(code, &a[0..n], &b[0..m], &mut room[0..k], text, size.next)
+    put_cells(text, wiped(0), &mut room);
+    let k = at_most(size.magnitude, 300);
+    is_pair_written(code, a, b, &mut room[0..k], text, size.next)
 }
 
 fn is_pair_written(
@@ -117,16 +120,6 @@ fn write(code: u64, a: &[u16], b: &[u16], out: &mut [u16]) -> WriteAnswer {
     }
 }
 
-fn is_pair_right(code: u64, text: &[u8], at: usize) -> bool {
-    let mut a = [0u16; 300];
-    let first = read_list(text, at, &mut a);
-    let mut b = [0u16; 300];
-    let second = read_list(text, first.next, &mut b);
-    let n = first.count;
-    let m = second.count;
-    is_told(pair_told(code, &a[0..n], &b[0..m]), text, second.next)
-}
-
 fn pair_told(code: u64, a: &[u16], b: &[u16]) -> Told {
     match code {
         8 => test_told(monomials::monomial::divides(a, b)),
@@ -139,15 +132,16 @@ fn pair_told(code: u64, a: &[u16], b: &[u16]) -> Told {
 fn is_mask_right(text: &[u8], at: usize) -> bool {
     let n = vectors::integer_at(text, at);
     let most = vectors::integer_at(text, n.next);
+    let list = list_at(text, most.next);
     let mut exps = [0u16; 300];
-    let list = read_list(text, most.next, &mut exps);
-    let k = list.count;
-    let answer = monomials::divmask::mask(
+    let next = put_cells(text, list, &mut exps);
+    let k = at_most(list.count, 300);
+    let told = mask_told(monomials::divmask::mask(
         n.magnitude as usize,
         (most.magnitude % 65536) as u16,
         &exps[0..k],
-    );
-    is_told(mask_told(answer), text, list.next)
+    ));
+    is_answer(text, next, told)
 }
 
 fn is_consistency_right(text: &[u8], at: usize) -> bool {
@@ -163,53 +157,31 @@ fn is_consistency_right(text: &[u8], at: usize) -> bool {
         low: c.magnitude,
         high: d.magnitude,
     };
-    is_told(
-        done(monomials::divmask::divides_consistent_with(low, high) as u64),
-        text,
-        d.next,
-    )
-}
-
-// 0 and one value.
-fn done(first: u64) -> Told {
-    Told {
-        number: 0,
-        values: 1,
-        first,
-        second: 0,
-    }
-}
-
-fn refused(refusal: Refusal) -> Told {
-    Told {
-        number: number_of(refusal),
-        values: 0,
-        first: 0,
-        second: 0,
-    }
+    let test = monomials::divmask::divides_consistent_with(low, high);
+    is_answer(text, d.next, done(2, test as u64, 0, 0))
 }
 
 fn number_told(answer: NumberAnswer) -> Told {
     let outcome = answer.outcome;
     match outcome {
-        NumberOutcome::Value(x) => done(x),
-        NumberOutcome::Refused(r) => refused(r),
+        NumberOutcome::Value(x) => done(2, x, 0, 0),
+        NumberOutcome::Refused(r) => refused(number_of(r)),
     }
 }
 
 fn test_told(answer: TestAnswer) -> Told {
     let outcome = answer.outcome;
     match outcome {
-        TestOutcome::Value(x) => done(x as u64),
-        TestOutcome::Refused(r) => refused(r),
+        TestOutcome::Value(x) => done(2, x as u64, 0, 0),
+        TestOutcome::Refused(r) => refused(number_of(r)),
     }
 }
 
 fn order_told(answer: OrderAnswer) -> Told {
     let outcome = answer.outcome;
     match outcome {
-        OrderOutcome::Value(x) => done(order_code(x)),
-        OrderOutcome::Refused(r) => refused(r),
+        OrderOutcome::Value(x) => done(2, order_code(x), 0, 0),
+        OrderOutcome::Refused(r) => refused(number_of(r)),
     }
 }
 
@@ -224,54 +196,23 @@ fn order_code(order: Order) -> u64 {
 fn mask_told(answer: MaskAnswer) -> Told {
     let outcome = answer.outcome;
     match outcome {
-        MaskOutcome::Value(m) => Told {
-            number: 0,
-            values: 2,
-            first: m.low,
-            second: m.high,
-        },
-        MaskOutcome::Refused(r) => refused(r),
+        MaskOutcome::Value(m) => done(3, m.low, m.high, 0),
+        MaskOutcome::Refused(r) => refused(number_of(r)),
     }
 }
 
-fn write_number(answer: WriteAnswer) -> u8 {
+fn write_told(answer: WriteAnswer) -> Told {
     let outcome = answer.outcome;
     match outcome {
-        WriteOutcome::Written => 0,
-        WriteOutcome::Refused(r) => number_of(r),
+        WriteOutcome::Written => done(1, 0, 0, 0),
+        WriteOutcome::Refused(r) => refused(number_of(r)),
     }
-}
-
-// Whether the number at `at`, and the values after it, are those of the call.
-fn is_told(told: Told, text: &[u8], at: usize) -> bool {
-    let number = vectors::integer_at(text, at);
-    if number.magnitude != told.number as u64 {
-        return false;
-    }
-    if told.values == 0 {
-        return true;
-    }
-    let first = vectors::integer_at(text, number.next);
-    if first.magnitude != told.first {
-        return false;
-    }
-    if told.values == 1 {
-        return true;
-    }
-    let second = vectors::integer_at(text, first.next);
-    second.magnitude == told.second
 }
 
 // Whether the number at `at` is that of the call, and the output is what stands after 0, and untouched after a refusal.
-fn is_written(answer: WriteAnswer, text: &[u8], at: usize, room: &[u16]) -> bool {
-    let number = vectors::integer_at(text, at);
-    let told = write_number(answer);
-    if number.magnitude != told as u64 {
-        return false;
-    }
-    if told == 0 {
-        is_list(text, number.next, room)
-    } else {
-        is_untouched(room)
-    }
+fn is_written(answer: WriteAnswer, text: &[u8], at: usize, out: &[u16]) -> bool {
+    let told = write_told(answer);
+    let number = is_told(text, at, told);
+    let output = are_cells(text, output_at(text, number.next, told.number), out);
+    number.right && output.right && vectors::is_line_end(text, output.next)
 }

@@ -8,9 +8,10 @@
 --   endOf s at     == the place after the digits at `at` and the byte that ends them, if there is one
 --   integerAt s at == the integer at `at`
 --   lineAfter s at == where the line after the one at `at` starts
+--   lineEnded s at == the byte before `at` ends a line
 -- Assumes nothing.
 use mathlib.Core.Path.{_≡_, refl}
-use mathlib.Core.Bool.{Bool, true, false, cond, _&&_}
+use mathlib.Core.Bool.{Bool, true, false, cond, not, _&&_}
 use mathlib.Core.List.{List, [], _∷_}
 use Prim.Native.Nat.{ℕ, suc, _+_, _*_, _-_, _^_, min}
 use lib.Dec.{leb, eqb}
@@ -53,6 +54,9 @@ lineLength (b ∷ s) = cond (eqb b 10) 1 (suc (lineLength s))
 abbrev pub lineAfter : List ℕ → ℕ → ℕ
 lineAfter s at = at + lineLength (drop at s)
 
+abbrev pub lineEnded : List ℕ → ℕ → Bool
+lineEnded s at = not (eqb at 0) && eqb (getD s (at - 1) 0) 10
+
 -- "12 -7", then a line end
 test-first : integerAt (49 ∷ 50 ∷ 32 ∷ 45 ∷ 55 ∷ 10 ∷ []) 0 ≡ record { negative = false; magnitude = 12; next = 3 }
 test-first = refl
@@ -65,3 +69,6 @@ test-past = refl
 
 test-line : lineAfter (49 ∷ 50 ∷ 10 ∷ 45 ∷ []) 1 ≡ 3
 test-line = refl
+
+test-ended : lineEnded (49 ∷ 50 ∷ 10 ∷ 45 ∷ []) 3 ≡ true
+test-ended = refl

@@ -1,8 +1,13 @@
 // Lines of decimal integers, as the test vectors have them, read at a place. Every place is taken: past the end of the text there is nothing.
+pub mod asked;
+pub mod counts;
+pub mod rooms;
+pub mod told;
+
 ghost use mathlib.Core.Path.{_≡_};
 ghost use Prim.Native.Nat.{_+_, _*_, _-_, _≤_, _<_, min};
 ghost use lib.ListN.{length, getD, drop};
-ghost use Rattle.vectors.specs.Text.{largest, isDigit, isMinus, magnitudeOf, endOf, integerAt, lineAfter};
+ghost use Rattle.vectors.specs.Text.{largest, isDigit, isMinus, magnitudeOf, endOf, integerAt, lineAfter, lineEnded};
 
 pub struct Integer {
     pub negative: bool,
@@ -36,6 +41,19 @@ pub fn line_after(text: &[u8], at: usize) -> usize
         i += 1;
     }
     i
+}
+
+// Whether the byte before `at` ends a line: a case whose last integer ends there has no more.
+pub fn is_line_end(text: &[u8], at: usize) -> bool
+    ensures { λ r. ⌜ r ≡ lineEnded (now (text .entry)) at ⌝ }
+{
+    if at == 0 {
+        return false;
+    }
+    if text.len() < at {
+        return false;
+    }
+    text[at - 1] == 10
 }
 
 fn minus_at(text: &[u8], at: usize) -> bool

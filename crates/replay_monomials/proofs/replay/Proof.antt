@@ -8,10 +8,10 @@ use Rattle.replay_monomials.proofs.replay.Statement.{statement}
 use Rattle.replay_monomials.proofs.replay.Tie as tie
 
 abbrev Inv-loop : tie.InvT-loop
-Inv-loop text counts₀ wrong₀ at₀ counts wrong at = length counts ≡ length counts₀
+Inv-loop text counts₀ at₀ counts at = length counts ≡ length counts₀
 
 abbrev μ-loop : tie.MeasureT-loop
-μ-loop text counts₀ wrong₀ at₀ counts wrong at = length text - at
+μ-loop text counts₀ at₀ counts at = length text - at
 
 pub replay-spec : {M : Type 1} → statement M
 replay-spec =
@@ -22,13 +22,9 @@ replay-spec =
     (λ c. search needs)
     (λ c κs. search needs)
     (λ c κs. search needs)
-    (λ c κs. search needs)
     -- loop-less
     (λ c. let h = c .line-after .ensures .1 (omega arith) in omega arith)
     -- loop-again
-    (λ c.
-    let p4 = c .before .before .before .before in
-    let p7 = p4 .before .before .before in
-    p4 .is-wrong .kept .1 .1 .0 ∙ p7 .loop .inv)
+    (λ c. let p3 = c .before .before .before in p3 .replay-line .kept .1 .1 .0 ∙ p3 .before .before .before .loop .inv)
     (λ c. search needs)
     (λ c. search needs))

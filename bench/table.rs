@@ -1,0 +1,61 @@
+//! The printed rows, and what they are held to.
+
+use crate::clock;
+use crate::limit::{within, Limited};
+use crate::workloads::Asked;
+
+/// Seconds of processor time that picus has for a list.
+const LIMIT_SECONDS: i64 = 20;
+
+#[derive(Default)]
+pub struct Table {
+    missed: Vec<String>,
+}
+
+/// picus's nanoseconds, where it ends in time; the call must be right.
+pub fn rust(call: impl FnMut() -> bool) -> Option<f64> {
+    rust_within(LIMIT_SECONDS, call)
+}
+
+pub fn rust_within(seconds: i64, mut call: impl FnMut() -> bool) -> Option<f64> {
+    let timed = || {
+        let mut right = true;
+        let time = clock::median(|| right &= call());
+        assert!(right, "the Rust has another answer");
+        time.to_le_bytes().to_vec()
+    };
+    match within(seconds, timed) {
+        Limited::Done(bytes) => Some(f64::from_le_bytes(bytes.try_into().expect("eight bytes"))),
+        Limited::TooLong => None,
+        Limited::Failed => panic!("the Rust has another answer, or none"),
+    }
+}
+
+impl Table {
+    pub fn head(&self, what: &str) {
+        println!("\n{what:<20} {:>3} {:>3} {:>12} {:>14} {:>9}", "n", "s", "ours us", "Rust us", "ratio");
+    }
+
+    pub fn row(&mut self, name: &str, n: usize, s: usize, ours: f64, rust: Option<f64>, asked: Asked) {
+        let met = match asked {
+            Asked::Times(times) => rust.is_none_or(|rust| rust >= times * ours),
+            Asked::Milliseconds(most) => ours <= most * 1e6,
+        };
+        let (rust_text, ratio) = match rust {
+            Some(rust) => (format!("{:.2}", rust / 1000.0), format!("{:.2}", rust / ours)),
+            None => (format!("> {LIMIT_SECONDS} s"), String::new()),
+        };
+        let mark = if met { "" } else { "  MISSED" };
+        println!("{name:<20} {n:>3} {s:>3} {:>12.2} {rust_text:>14} {ratio:>9}{mark}", ours / 1000.0);
+        if !met {
+            self.missed.push(name.to_string());
+        }
+    }
+
+    pub fn end(&self) {
+        match self.missed.len() {
+            0 => println!("\nbench: every row is what is asked"),
+            _ => println!("\nbench: missed: {}", self.missed.join(", ")),
+        }
+    }
+}
