@@ -2,6 +2,7 @@
 pub mod Checks
 mod Answers
 mod Means
+mod Given
 pub mod Refusals
 pub mod Counts
 pub mod Records

@@ -43,6 +43,7 @@ use Rattle.bridge.specs.Told.{numberIn}
 use Rattle.bridge.specs.Records.{ofCheck, ofCopy}
 use Rattle.promises.specs.Promise.{Slice, _⨾_, Below}
 use Rattle.promises.proofs.Checks.{passes}
+use Rattle.promises.proofs.Given.{writes}
 use Rattle.promises.proofs.Answers.{check-kind, copy-kind}
 
 -- an answer with the size k: nothing was refused, and the first k bytes of the output are the record
@@ -63,10 +64,6 @@ accepted n s cells out e =
     let many = passes (ltb 60 s) Count (drop 2 cs) (wide .1) in
     let rest = passes (not (eqb (length cells) (s * n))) Cells (drop 3 cs) (many .1) in
     (ltb-false 255 n (wide .0), ltb-false 60 s (many .0), eqb-true (length cells) (s * n) (not-false (eqb (length cells) (s * n)) (rest .0)))
-
-pub writes : (n s : ℕ) (cells out : List ℕ) → n ≤ 255 → s ≤ 60 → length cells ≡ s * n → length (recordOf n s cells) ≤ length out → refusal (writeChecks 255 60 n s cells out) ≡ none
-writes n s cells out a b c d =
-    rw (le-ltb 255 n a, le-ltb 60 s b, eq-eqb (length cells) (s * n) c, le-ltb (length out) (length (recordOf n s cells)) d)
 
 module _ (κs : Lfts 2) (n s : ℕ) (cells out : Slice ℕ) (r : SizeAnswer) (out′ : Slice ℕ)
     (outcome : «write_record».Post κs (n ⨾ s ⨾ cells ⨾ out ⨾ tt) r (n ⨾ s ⨾ cells ⨾ out′ ⨾ tt))
