@@ -2,9 +2,8 @@
 --   Means cs rs         == each test of cs passes exactly when the condition of its rule holds, and asks for the rule's number
 --   first-holds         the number is that of the first rule that holds
 --   first-unique, first-exactly   no other number is
---   ..-number           the number of an answer is that of what was refused
 --   passes              the first check of a call that is done
---   by-after            what a lent slice holds after a refusal, and after none
+--   after-status        what a lent slice holds after a refusal, and after none
 -- Assumes nothing.
 use mathlib.Core.Path.{_≡_, refl, sym, ap, _∙_}
 use mathlib.Core.Logic.{_≢_, _↔_, _⊎_, inl, inr}
@@ -62,10 +61,6 @@ first-exactly {rs} {j} p k = (λ e. rw e at p, λ q. first-unique rs j k (p .dec
 pub too-many : {n s k : ℕ} {rs : List Rule} → First ((255 < n, 1) ∷ (60 < s, 2) ∷ rs) k → n ≤ 255 → 60 < s → k ≡ 2
 too-many f w m = first-exactly f 2 .1 (record { decided = inr (λ h. omega arith, inl (m, refl)) })
 
--- the same of an answer a, which is x by its contract and has the number f a
-pub by-checks : {A : Type 0} (f : A → ℕ) {a x : A} (cs : List Check) {rs : List Rule} → a ≡ x → f x ≡ status (refusal cs) → Means cs rs → First rs (f a)
-by-checks f cs {rs} p e m = record { decided = rw (p, e) (first-holds cs rs m) }
-
 -- tests and conditions
 
 pub above : (a b : ℕ) → (ltb a b ≡ true) ↔ (a < b)
@@ -120,13 +115,9 @@ passes false q cs e = (refl, e)
 
 -- what a lent slice holds
 
-after-number : {A : Type 0} (o : Option Refusal) (x y : A) → After (status o) (after o y x) x y
-after-number none x y = (λ h. refl, λ h. absurd (h refl))
-after-number (some r) x y = (λ h. absurd (number-there r h), λ h. refl)
-
--- the same of an answer a, which is b by its contract and has the number f a
-pub by-after : {A B : Type 0} (f : B → ℕ) {a b : B} (o : Option Refusal) {w x y : A} → a ≡ b → f b ≡ status o → w ≡ after o y x → After (f a) w x y
-by-after f o {w} {x} {y} p e q = rw (q, p, e) (after-number o x y)
+pub after-status : {A : Type 0} (o : Option Refusal) (x y : A) → After (status o) (after o y x) x y
+after-status none x y = (λ h. refl, λ h. absurd (h refl))
+after-status (some r) x y = (λ h. absurd (number-there r h), λ h. refl)
 
 -- answers that come before the later checks
 

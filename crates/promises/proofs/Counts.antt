@@ -1,10 +1,10 @@
 -- Demand 2: the numbers are right. Each law speaks of any outcome that the call's contract allows, as the source states it: r is the answer,
 -- and what has a prime is what a lent slice holds afterwards.
 --   enumerated                        the list behind HF has each monomial of its degree and width exactly once, and nothing else
---   numerator-counts, numerator-only  hilbert_numerator
+--   numerator-given, numerator-counts, numerator-only  hilbert_numerator
 --   update-adds, update-counts, update-direct-call   add_generators
 --   hf-at-value                       hf_at
---   dimension-counts, dimension-only, dimension-top  quotient_dimension
+--   dimension-given, dimension-counts, dimension-only, dimension-top   quotient_dimension
 --   host-counts                       purlthicket_dim
 -- Assumes nothing.
 use mathlib.Core.Path.{_≡_, refl, sym, ap, _∙_}
@@ -20,7 +20,7 @@ use lib.IntN.{ℤ, pos, _+ℤ_, _-ℤ_}
 use lib.ListN.{length, take, drop, replicate}
 use lib.Seq.{take-at}
 use contract.Lifetimes.{Lfts}
-use borrow.Author.Tests.{ltb-false, leb-false, eqb-true, eqb-false, not-false}
+use borrow.Author.Tests.{ltb-false, leb-false, le-ltb, eqb-true, eqb-false, not-false}
 use Rattle.laws.specs.Coefficients.{Trimmed, coefficient}
 use Rattle.laws.specs.Count.{bit, occurrences, monomials, HF}
 use Rattle.laws.specs.Dimension.{leastPower, finite, degreeBound, powersProduct, standards, dimension, topDegree}
@@ -29,10 +29,10 @@ use Rattle.laws.specs.Ideal.{listed, Within, multiple, unitIn}
 use Rattle.laws.specs.Monomial.{degree}
 use Rattle.laws.specs.Numerator.{numerator, numeratorAt, update}
 use Rattle.laws.specs.Record.{isRecord, widthIn, countIn, exponentsIn, listIn, answerRecord}
-use Rattle.laws.specs.Room.{coefficientsAsked, updateAsked}
+use Rattle.laws.specs.Room.{cellsAsked, coefficientsAsked, updateAsked}
 use Rattle.laws.proofs.Coefficients.{trimmed-unique}
 use Rattle.laws.proofs.Counting.{numerator-unique}
-use Rattle.laws.proofs.Dimension.{standards-once, standards-other, standards-width, dimension-bound, dimension-unit}
+use Rattle.laws.proofs.Dimension.{power-finite, standards-once, standards-other, standards-width, dimension-bound, dimension-unit}
 use Rattle.laws.proofs.Enumeration.{in-occurrences, occurrences-in, enumeration-once, enumeration-other-degree, enumeration-other-width}
 use Rattle.laws.proofs.Grown.{listed-append}
 use Rattle.laws.proofs.Hilbert.{hilbert-numerator, hilbert-sums}
@@ -46,7 +46,7 @@ use Rattle.monomials.specs.Refusal.{Check, refusal, after}
 use Rattle.monomials.specs.declared.refusal.Refusal.{Refusal}
 use Rattle.monomials.specs.declared.refusal.Refusal.the-variants.{Width, Count, Cells, SumRoom, Degree, Value, Record, Dimension, Output}
 use Rattle.numbers.specs.Wide.{value, wide, wideOf, signedValue}
-use Rattle.numbers.specs.Dimension.{dimensionIs, noDimension, boundChecks, roomChecks, dimensionChecks}
+use Rattle.numbers.specs.Dimension.{dimensionIs, atOnce, noDimension, boundChecks, roomChecks, dimensionChecks}
 use Rattle.numbers.specs.Hilbert.{signedAnswer, valueCheck, hilbertChecks}
 use Rattle.numbers.specs.Numerator.{lengthAnswer, padded, numeratorChecks}
 use Rattle.numbers.specs.Update.{updateChecks}
@@ -68,6 +68,7 @@ use Rattle.records.specs.Host.{ownCells, ownCoefficients, ownWords, hostChecks}
 use Rattle.records.proofs.host.purlthicket_dim.Reads as purlthicket_dim
 use Rattle.promises.specs.Promise.{Slice, _⨾_, Signed64}
 use Rattle.promises.proofs.Checks.{passes, done-none}
+use Rattle.promises.proofs.Given.{numerator-done, dimension-done}
 use Rattle.promises.proofs.Refusals.{purlthicket-dim}
 
 -- "HF(d) is the number of degree-d monomials in n variables that are no multiple": HF counts over this list, which has each monomial of
@@ -92,6 +93,18 @@ counted s t a b cs e =
     let wide = passes s Width ((t, Count) ∷ (not (eqb a b), Cells) ∷ cs) e in
     let many = passes t Count ((not (eqb a b), Cells) ∷ cs) (wide .1) in
     eqb-true a b (not-false (eqb a b) (passes (not (eqb a b)) Cells cs (many .1) .0))
+
+-- A list within the limits, with the rooms as asked, is not refused.
+pub numerator-given : (κs : Lfts 4) (n s : ℕ) (cells room : Slice ℕ) (first second : Slice ℤ) (r : LengthAnswer) (room′ : Slice ℕ) (first′ second′ : Slice ℤ)
+    → hilbert_numerator.Post κs (n ⨾ s ⨾ cells ⨾ room ⨾ first ⨾ second ⨾ tt) r (n ⨾ s ⨾ cells ⨾ room′ ⨾ first′ ⨾ second′ ⨾ tt)
+    → n ≤ 255 → s ≤ 60 → length (cells .now) ≡ s * n
+    → cellsAsked n (listed n s (cells .now)) ≤ length (room .now)
+    → coefficientsAsked (listed n s (cells .now)) ≤ length (first .now)
+    → coefficientsAsked (listed n s (cells .now)) ≤ length (second .now)
+    → (k : ℕ) × (r .outcome ≡ LengthOutcome.Value k)
+numerator-given κs n s cells room first second r room′ first′ second′ outcome w m i c a b =
+    let k = length (numerator (listed n s (cells .now))) in
+    (k, ap (λ (y : LengthAnswer). y .outcome) (outcome .0) ∙ ap (λ (o : Option Refusal). lengthAnswer o k .outcome) (numerator-done n s (cells .now) (room .now) (first .now) (second .now) w m i c a b))
 
 module _ (κs : Lfts 4) (n s : ℕ) (cells room : Slice ℕ) (first second : Slice ℤ) (r : LengthAnswer) (room′ : Slice ℕ) (first′ second′ : Slice ℤ)
     (outcome : hilbert_numerator.Post κs (n ⨾ s ⨾ cells ⨾ room ⨾ first ⨾ second ⨾ tt) r (n ⨾ s ⨾ cells ⨾ room′ ⨾ first′ ⨾ second′ ⨾ tt))
@@ -260,10 +273,37 @@ accepted n s cells room p q sums e =
         none-needed (suc n) L i = absurd (omega arith)
     go false false h g o = bounded 65536 n (listed n s cells) (roomChecks n (listed n s cells) room p q sums) o
 
+bounded-by : (M n : ℕ) (L : List (List ℕ)) → finite n L ≡ true → degreeBound n L ≤ M → noDimension M n L ≡ false
+bounded-by M n L f b = rw (f, le-ltb M (degreeBound n L) b)
+
 dimension-there : (o : Option Refusal) (n : ℕ) (L : List (List ℕ)) (x : DimensionValue) → dimensionIs o n L .outcome ≡ DimensionOutcome.Value x
     → (o ≡ none) × (wide (dimension n L) ≡ x .dimension) × (topDegree n L ≡ x .top)
 dimension-there none n L x e = let h : record { dimension = wide (dimension n L); top = topDegree n L } ≡ x = cc in (refl, ap (λ (y : DimensionValue). y .dimension) h, ap (λ (y : DimensionValue). y .top) h)
 dimension-there (some r) n L x e = let z : _≡_ {A = ℕ} 0 1 = cc in absurd (omega arith)
+
+-- A list within the limits, with a pure power of each variable and the rooms as asked, is not refused; one with a unit, or of width 0, asks
+-- nothing more.
+pub dimension-given : (κs : Lfts 5) (n s : ℕ) (cells room : Slice ℕ) (first second : Slice ℤ) (sums : Slice ℕ) (r : DimensionAnswer) (room′ : Slice ℕ) (first′ second′ : Slice ℤ) (sums′ : Slice ℕ)
+    → quotient_dimension.Post κs (n ⨾ s ⨾ cells ⨾ room ⨾ first ⨾ second ⨾ sums ⨾ tt) r (n ⨾ s ⨾ cells ⨾ room′ ⨾ first′ ⨾ second′ ⨾ sums′ ⨾ tt)
+    → n ≤ 255 → s ≤ 60 → length (cells .now) ≡ s * n
+    → (atOnce n (listed n s (cells .now)) ≡ false
+    → ((v : ℕ) → v < n → leastPower (listed n s (cells .now)) v ≢ 0)
+    × (degreeBound n (listed n s (cells .now)) ≤ 65536)
+    × (powersProduct n (listed n s (cells .now)) < 2 ^ 127)
+    × (cellsAsked n (listed n s (cells .now)) ≤ length (room .now))
+    × (coefficientsAsked (listed n s (cells .now)) ≤ length (first .now))
+    × (coefficientsAsked (listed n s (cells .now)) ≤ length (second .now))
+    × (2 * (degreeBound n (listed n s (cells .now)) + 1) ≤ length (sums .now)))
+    → (x : DimensionValue) × (r .outcome ≡ DimensionOutcome.Value x)
+dimension-given κs n s cells room first second sums r room′ first′ second′ sums′ outcome w m i enough =
+    let L : List (List ℕ) = listed n s (cells .now) in
+    let none-refused = dimension-done n s (cells .now) (room .now) (first .now) (second .now) (sums .now) w m i
+    (λ once.
+    let (p, b, c, d, e, f, g) = enough once in
+    (bounded-by 65536 n L (power-finite n L p) b, c, d, e, f, g)) in (
+      record { dimension = wide (dimension n L); top = topDegree n L },
+      ap (λ (y : DimensionAnswer). y .outcome) (outcome .0) ∙ ap (λ (o : Option Refusal). dimensionIs o n L .outcome) none-refused,
+    )
 
 module _ (κs : Lfts 5) (n s : ℕ) (cells room : Slice ℕ) (first second : Slice ℤ) (sums : Slice ℕ) (r : DimensionAnswer) (room′ : Slice ℕ) (first′ second′ : Slice ℤ) (sums′ : Slice ℕ)
     (outcome : quotient_dimension.Post κs (n ⨾ s ⨾ cells ⨾ room ⨾ first ⨾ second ⨾ sums ⨾ tt) r (n ⨾ s ⨾ cells ⨾ room′ ⨾ first′ ⨾ second′ ⨾ sums′ ⨾ tt))

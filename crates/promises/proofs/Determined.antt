@@ -1,6 +1,6 @@
 -- Any two outcomes that a contract allows are equal, for every public call: the answer, what each lent slice holds afterwards, and the part that
 -- is handed back. Each law stands in the call's own crate, over the contract as the source states it; here it has the name of the call, as
--- crate-module-function.
+-- crate-module-function. (The library `vectors` serves the replay programs alone, and has its laws beside it.)
 -- Assumes nothing.
 
 -- monomials
@@ -86,9 +86,4 @@ pub use Rattle.bridge.proofs.Determined.{
   pt-check-place as bridge-ideal-pt-check-place,
   pt-place as bridge-ideal-pt-place,
   pt-copy-record as bridge-ideal-pt-copy-record,
-}
--- the reader of test vectors
-pub use Rattle.vectors.proofs.Determined.{
-  integer-at-determined as vectors-integer-at,
-  line-after-determined as vectors-line-after,
 }

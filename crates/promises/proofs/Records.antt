@@ -10,7 +10,7 @@ use mathlib.Core.Logic.{_≢_, _↔_}
 use mathlib.Core.Bool.{Bool, true, false, not, _&&_, false≢true}
 use mathlib.Core.List.{List, [], _∷_, _++_}
 use mathlib.Core.Option.{Option, none, some}
-use Prim.Native.Nat.{ℕ, _+_, _*_, _≤_, _<_}
+use Prim.Native.Nat.{ℕ, _+_, _*_, _≤_}
 use native.Mathlib.Omega.{arith}
 use lib.Dec.{leb, ltb, eqb}
 use lib.ListN.{length, take, drop}
@@ -27,7 +27,7 @@ use Rattle.laws.proofs.Minimal.{minimal-same, minimal-shortest, minimal-falling
 use Rattle.laws.proofs.Monomial.{and-left, and-right}
 use Rattle.laws.proofs.Reading.{listed-small, record-again, record-list, record-is}
 use Rattle.laws.proofs.Record.{record-same, record-length}
-use Rattle.monomials.specs.Refusal.{number, Check, refusal, after}
+use Rattle.monomials.specs.Refusal.{number, refusal, after}
 use Rattle.monomials.specs.declared.refusal.Refusal.{Refusal}
 use Rattle.monomials.specs.declared.refusal.Refusal.the-variants.{Width as TooWide, Count, Cells, Place, Record, Output}
 use Rattle.records.specs.Host.{status}
@@ -43,7 +43,8 @@ use Rattle.bridge.specs.Told.{numberIn}
 use Rattle.bridge.specs.Records.{ofCheck, ofCopy}
 use Rattle.promises.specs.Promise.{Slice, _⨾_, Below}
 use Rattle.promises.proofs.Checks.{passes}
-use Rattle.promises.proofs.Answers.{check-number, copy-number}
+use Rattle.promises.proofs.Given.{writes}
+use Rattle.promises.proofs.Answers.{check-kind, copy-kind}
 
 -- an answer with the size k: nothing was refused, and the first k bytes of the output are the record
 bytes-there : (o : Option Refusal) (bytes out : List ℕ) (k : ℕ) → sizeAnswer o (length bytes) .outcome ≡ SizeOutcome.Value k
@@ -63,10 +64,6 @@ accepted n s cells out e =
     let many = passes (ltb 60 s) Count (drop 2 cs) (wide .1) in
     let rest = passes (not (eqb (length cells) (s * n))) Cells (drop 3 cs) (many .1) in
     (ltb-false 255 n (wide .0), ltb-false 60 s (many .0), eqb-true (length cells) (s * n) (not-false (eqb (length cells) (s * n)) (rest .0)))
-
-pub writes : (n s : ℕ) (cells out : List ℕ) → n ≤ 255 → s ≤ 60 → length cells ≡ s * n → length (recordOf n s cells) ≤ length out → refusal (writeChecks 255 60 n s cells out) ≡ none
-writes n s cells out a b c d =
-    rw (le-ltb 255 n a, le-ltb 60 s b, eq-eqb (length cells) (s * n) c, le-ltb (length out) (length (recordOf n s cells)) d)
 
 module _ (κs : Lfts 2) (n s : ℕ) (cells out : Slice ℕ) (r : SizeAnswer) (out′ : Slice ℕ)
     (outcome : «write_record».Post κs (n ⨾ s ⨾ cells ⨾ out ⨾ tt) r (n ⨾ s ⨾ cells ⨾ out′ ⨾ tt))
@@ -128,7 +125,7 @@ module _ (κs : Lfts 2) (n s : ℕ) (cells out : Slice ℕ) (r : SizeAnswer) (ou
   written-taken λs rec i c p e =
       let cs = placeChecks 60 (rec .now) i in
       let taken : isRecord 60 (rec .now) ≡ true = ap (isRecord 60) e ∙ is-record in
-      rw (ap (λ (a : CheckAnswer). numberIn (ofCheck a 0)) p ∙ check-number (refusal cs))
+      rw (ap (λ (a : CheckAnswer). numberIn (ofCheck a 0)) p ∙ check-kind .law (refusal cs))
       (not-twelve (isRecord 60 (rec .now)) (leb (countIn (rec .now)) i) Place (λ z. omega arith) .1 taken)
 
 -- bytes are a record exactly when writing out what they list gives those bytes
@@ -190,7 +187,7 @@ module _ (κs : Lfts 2) (rec exponents out : Slice ℕ) (w : SizeAnswer) (out′
       ↔ ((w .outcome ≡ SizeOutcome.Value (length (rec .now))) × (take (length (rec .now)) (out′ .now) ≡ rec .now))
   place-takes λs k c p =
       let f = not-twelve (isRecord 60 (rec .now)) (leb (countIn (rec .now)) k) Place (λ e. omega arith) in
-      let e : numberIn (ofCheck c 0) ≡ status (refusal (placeChecks 60 (rec .now) k)) = ap (λ (a : CheckAnswer). numberIn (ofCheck a 0)) p ∙ check-number (refusal (placeChecks 60 (rec .now) k)) in
+      let e : numberIn (ofCheck c 0) ≡ status (refusal (placeChecks 60 (rec .now) k)) = ap (λ (a : CheckAnswer). numberIn (ofCheck a 0)) p ∙ check-kind .law (refusal (placeChecks 60 (rec .now) k)) in
       rw e (λ h. record-again-iff .0 (f .0 h), λ h. f .1 (record-again-iff .1 h))
 
   pub copy-takes : (λs : Lfts 2) (cells : Slice ℕ) (c : CopyAnswer) (cells′ : Slice ℕ) → «copy_record».Post λs (rec ⨾ cells ⨾ tt) c (rec ⨾ cells′ ⨾ tt)
@@ -199,5 +196,5 @@ module _ (κs : Lfts 2) (rec exponents out : Slice ℕ) (w : SizeAnswer) (out′
   copy-takes λs cells c cells′ p =
       let cs = copyChecks 60 (rec .now) (cells .now) in
       let f = not-twelve (isRecord 60 (rec .now)) (ltb (length (cells .now)) (countIn (rec .now) * widthIn (rec .now))) Output (λ e. omega arith) in
-      let e : numberIn (ofCopy c) ≡ status (refusal cs) = ap (λ (a : CopyAnswer). numberIn (ofCopy a)) (p .0) ∙ copy-number (refusal cs) (widthIn (rec .now)) (countIn (rec .now)) in
+      let e : numberIn (ofCopy c) ≡ status (refusal cs) = ap (λ (a : CopyAnswer). numberIn (ofCopy a)) (p .0) ∙ copy-kind (widthIn (rec .now)) (countIn (rec .now)) .law (refusal cs) in
       rw e (λ h. record-again-iff .0 (f .0 h), λ h. f .1 (record-again-iff .1 h))

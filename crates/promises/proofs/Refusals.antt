@@ -4,15 +4,13 @@
 -- (`first-exactly`); `After` says what a slice holds. Calls that are not named here have no refusal to tell.
 -- Assumes nothing.
 use mathlib.Core.Path.{_≡_, refl, sym, ap, _∙_}
-use mathlib.Core.Logic.{_≢_, _↔_, _⊎_, inl, inr}
-use mathlib.Core.Bool.{Bool, true, false, not, cond}
+use mathlib.Core.Logic.{_≢_, _⊎_}
+use mathlib.Core.Bool.{false, not, cond}
 use mathlib.Core.List.{List, [], _∷_, _++_}
 use Prim.Native.Nat.{ℕ, _+_, _*_, _^_, _≤_, _<_}
-use native.Mathlib.Omega.{arith}
 use lib.Dec.{leb, ltb, eqb, lit<, lit≤}
 use lib.IntN.{ℤ, pos, natAbs}
-use lib.ListN.{length, drop}
-use borrow.Author.Tests.{lt-ltb, le-ltb}
+use lib.ListN.{length, getD, drop}
 use contract.Lifetimes.{Lfts}
 use Rattle.laws.specs.Coefficients.{coefficient}
 use Rattle.laws.specs.Dimension.{leastPower, degreeBound, powersProduct, dimension, topDegree}
@@ -24,11 +22,11 @@ use Rattle.laws.specs.Numerator.{numerator, update}
 use Rattle.laws.specs.Record.{idealRecord, isRecord, widthIn, countIn, exponentsIn, listIn, partOf}
 use Rattle.laws.specs.Room.{cellsAsked, coefficientsAsked, updateAsked}
 use Rattle.laws.specs.Order.{lex, degrevlex}
+use Rattle.laws.proofs.Reading.{bytes-by}
 use Rattle.monomials.specs.Mask.{ofWords}
 use Rattle.monomials.specs.Monomial.{atMost, pairChecks, writeChecks, powerChecks, productChecks, quotientChecks}
-use Rattle.monomials.specs.Refusal.{number, refusal, after, tooWide}
-use Rattle.monomials.specs.declared.refusal.Refusal.{Refusal}
-use Rattle.monomials.specs.declared.refusal.Refusal.the-variants.{Width, Place, Exponent, Division, SumRoom, Degree, Value, Record, Output}
+use Rattle.monomials.specs.Refusal.{refusal, tooWide}
+use Rattle.monomials.specs.declared.refusal.Refusal.the-variants.{Place, Exponent, Division, Record, Output}
 use Rattle.monomials.specs.declared.divmask.MaskAnswer.{MaskAnswer}
 use Rattle.monomials.specs.declared.monomial.NumberAnswer.{NumberAnswer}
 use Rattle.monomials.specs.declared.monomial.WriteAnswer.{WriteAnswer}
@@ -49,7 +47,7 @@ use Rattle.monomials.proofs.divmask.mask.Reads as mask_of
 use Rattle.numbers.specs.Dimension.{atOnce, boundChecks, roomChecks, dimensionChecks}
 use Rattle.numbers.specs.Hilbert.{hilbertChecks}
 use Rattle.numbers.specs.Wide.{value}
-use Rattle.numbers.specs.Numerator.{wiped, padded, listChecks, cellRoom, coefficientRooms, numeratorChecks}
+use Rattle.numbers.specs.Numerator.{wiped, padded, numeratorChecks}
 use Rattle.numbers.specs.Update.{updateChecks}
 use Rattle.numbers.specs.declared.dimension.DimensionAnswer.{DimensionAnswer}
 use Rattle.numbers.specs.declared.hf_at.SignedAnswer.{SignedAnswer}
@@ -59,7 +57,7 @@ use Rattle.numbers.proofs.numerator.hilbert_numerator.Reads as hilbert_numerato
 use Rattle.numbers.proofs.update.add_generators.Reads as add_generators
 use Rattle.numbers.proofs.hf_at.hf_at.Reads as hf_at
 use Rattle.numbers.proofs.dimension.quotient_dimension.Reads as quotient_dimension
-use Rattle.records.specs.Answer.{answerChecks, answerOf, answerBytes}
+use Rattle.records.specs.Answer.{answerChecks, answerOf}
 use Rattle.records.specs.Host.{ownCells, ownCoefficients, ownWords, recordChecks, hostChecks, status}
 use Rattle.records.specs.Ideal.{writeChecks as writeRecordChecks, placeChecks, copyChecks}
 use Rattle.records.specs.declared.ideal.SizeAnswer.{SizeAnswer}
@@ -69,6 +67,7 @@ use Rattle.records.proofs.ideal.write_record.Reads as «write_record»
 use Rattle.records.proofs.ideal.check_place.Reads as check_place
 use Rattle.records.proofs.ideal.place.Reads as place_of
 use Rattle.records.proofs.ideal.copy_record.Reads as «copy_record»
+use Rattle.records.proofs.Statuses.{status-written, status-never}
 use Rattle.records.proofs.answer.write_answer.Reads as write_answer
 use Rattle.records.proofs.host.answer_record.Reads as «answer_record»
 use Rattle.records.proofs.host.purlthicket_dim.Reads as purlthicket_dim
@@ -76,26 +75,21 @@ use Rattle.bridge.specs.Told.{numberIn}
 use Rattle.bridge.specs.Monomials.{ofNumber, ofWrite, ofTest, ofOrder, ofMask}
 use Rattle.bridge.specs.Numbers.{ofSigned, ofLength, ofDimension}
 use Rattle.bridge.specs.Records.{ofSize, ofCheck, ofCopy}
-use Rattle.promises.specs.Promise.{Slice, _⨾_, Rule, First, After}
-use Rattle.promises.proofs.Checks.{Means, too-many, cons-first, list-first, early-first, above, reaches, differs, equals, fails, twice, either, product-above, not-divides, coefficient-beyond, unit-in, no-dimension}
-use Rattle.promises.proofs.Answers.{number-first, write-first, write-after, test-first, order-first, mask-first, length-first, length-after, signed-first, signed-number, dimension-number, dimension-after, size-first, size-after, check-number, check-first, check-after, copy-first, copy-after}
-
--- what checks 7 and 8 say
-rooms-means : (c k : ℕ) (room : List ℕ) (p q : List ℤ)
-    → Means (cellRoom c room ∷ coefficientRooms k p q ∷ []) ((length room < c, 7) ∷ ((length p < k) ⊎ (length q < k), 8) ∷ [])
-rooms-means c k room p q =
-    (above (length room) c, (refl, (either (ltb (length p) k) (ltb (length q) k) (above (length p) k) (above (length q) k), (refl, tt))))
+use Rattle.promises.specs.Promise.{Slice, _⨾_, Rule, First, After, Below}
+use Rattle.promises.proofs.Checks.{too-many, cons-first, list-first, early-first, above, reaches, differs, equals, fails, twice, either, product-above, not-divides, coefficient-beyond, unit-in, no-dimension}
+use Rattle.promises.proofs.Means.{rooms-means, write-means, last-means, pair-means, sums-left, host-kept, host-written}
+use Rattle.promises.proofs.Answers.{told-first, told-after, number-kind, write-kind, test-kind, order-kind, mask-kind, signed-kind, length-kind, dimension-kind, size-kind, check-kind, copy-kind}
 
 -- "Monomials: 1, 3, 4, 5, 6, as they apply; the width is the number given, or else the first monomial's length. Masks: 1 only."
 
 pub total-degree : (κs : Lfts 1) (a : Slice ℕ) (r : NumberAnswer) → total_degree.Post κs (a ⨾ tt) r (a ⨾ tt)
     → First ((255 < length (a .now), 1) ∷ []) (numberIn (ofNumber r))
-total-degree κs a r p = number-first (tooWide 255 (length (a .now)) ∷ []) (degree (a .now)) p (above 255 (length (a .now)), (refl, tt))
+total-degree κs a r p = told-first (number-kind (degree (a .now))) (tooWide 255 (length (a .now)) ∷ []) p (above 255 (length (a .now)), (refl, tt))
 
 pub exponent-of : (κs : Lfts 1) (a : Slice ℕ) (v : ℕ) (r : NumberAnswer) → exponent_of.Post κs (a ⨾ v ⨾ tt) r (a ⨾ v ⨾ tt)
     → First ((255 < length (a .now), 1) ∷ (length (a .now) ≤ v, 4) ∷ []) (numberIn (ofNumber r))
 exponent-of κs a v r p =
-    number-first (tooWide 255 (length (a .now)) ∷ (leb (length (a .now)) v, Place) ∷ []) (exponent (a .now) v) p
+    told-first (number-kind (exponent (a .now) v)) (tooWide 255 (length (a .now)) ∷ (leb (length (a .now)) v, Place) ∷ []) p
     (above 255 (length (a .now)), (refl, (reaches (length (a .now)) v, (refl, tt))))
 
 pub power-of : (κs : Lfts 1) (n v x : ℕ) (out : Slice ℕ) (r : WriteAnswer) (out′ : Slice ℕ) → power_of.Post κs (n ⨾ v ⨾ x ⨾ out ⨾ tt) r (n ⨾ v ⨾ x ⨾ out′ ⨾ tt)
@@ -103,19 +97,9 @@ pub power-of : (κs : Lfts 1) (n v x : ℕ) (out : Slice ℕ) (r : WriteAnswer) 
     × After (numberIn (ofWrite r)) (out′ .now) (out .now) (power n v x)
 power-of κs n v x out r out′ p =
     let cs = powerChecks 255 n v (out .now) in (
-      write-first cs (p .0) (above 255 n, (refl, (differs (length (out .now)) n, (refl, (reaches n v, (refl, tt)))))),
-      write-after (refusal cs) (p .0) (p .1),
+      told-first write-kind cs (p .0) (above 255 n, (refl, (differs (length (out .now)) n, (refl, (reaches n v, (refl, tt)))))),
+      told-after write-kind (refusal cs) (p .0) (p .1),
     )
-
--- what checks 1 and 3 of two monomials and an output say
-write-means : (a b out : List ℕ) → Means (writeChecks 255 a b out) ((255 < length a, 1) ∷ (length b ≢ length a, 3) ∷ (length out ≢ length a, 3) ∷ [])
-write-means a b out = (above 255 (length a), (refl, (differs (length b) (length a), (refl, (differs (length out) (length a), (refl, tt))))))
-
--- and with one check more
-last-means : {P : Type 0} (a b out : List ℕ) (t : Bool) (q : Refusal) → (t ≡ true) ↔ P
-    → Means (writeChecks 255 a b out ++ (t, q) ∷ []) ((255 < length a, 1) ∷ (length b ≢ length a, 3) ∷ (length out ≢ length a, 3) ∷ (P, number q) ∷ [])
-last-means a b out t q f =
-    (above 255 (length a), (refl, (differs (length b) (length a), (refl, (differs (length out) (length a), (refl, (f, (refl, tt))))))))
 
 pub product-of : (κs : Lfts 3) (a b out : Slice ℕ) (r : WriteAnswer) (out′ : Slice ℕ) → product_of.Post κs (a ⨾ b ⨾ out ⨾ tt) r (a ⨾ b ⨾ out′ ⨾ tt)
     → First
@@ -125,8 +109,8 @@ pub product-of : (κs : Lfts 3) (a b out : Slice ℕ) (r : WriteAnswer) (out′ 
     × After (numberIn (ofWrite r)) (out′ .now) (out .now) (product (a .now) (b .now))
 product-of κs a b out r out′ p =
     let cs = productChecks 255 65535 (a .now) (b .now) (out .now) in (
-      write-first cs (p .0) (last-means (a .now) (b .now) (out .now) (not (atMost 65535 (product (a .now) (b .now)))) Exponent (product-above 65535 (a .now) (b .now))),
-      write-after (refusal cs) (p .0) (p .1),
+      told-first write-kind cs (p .0) (last-means (a .now) (b .now) (out .now) (not (atMost 65535 (product (a .now) (b .now)))) Exponent (product-above 65535 (a .now) (b .now))),
+      told-after write-kind (refusal cs) (p .0) (p .1),
     )
 
 pub quotient-of : (κs : Lfts 3) (a b out : Slice ℕ) (r : WriteAnswer) (out′ : Slice ℕ) → quotient_of.Post κs (a ⨾ b ⨾ out ⨾ tt) r (a ⨾ b ⨾ out′ ⨾ tt)
@@ -137,8 +121,8 @@ pub quotient-of : (κs : Lfts 3) (a b out : Slice ℕ) (r : WriteAnswer) (out′
     × After (numberIn (ofWrite r)) (out′ .now) (out .now) (quotient (a .now) (b .now))
 quotient-of κs a b out r out′ p =
     let cs = quotientChecks 255 (a .now) (b .now) (out .now) in (
-      write-first cs (p .0) (last-means (a .now) (b .now) (out .now) (not (divides (b .now) (a .now))) Division (not-divides (b .now) (a .now))),
-      write-after (refusal cs) (p .0) (p .1),
+      told-first write-kind cs (p .0) (last-means (a .now) (b .now) (out .now) (not (divides (b .now) (a .now))) Division (not-divides (b .now) (a .now))),
+      told-after write-kind (refusal cs) (p .0) (p .1),
     )
 
 pub lcm-of : (κs : Lfts 3) (a b out : Slice ℕ) (r : WriteAnswer) (out′ : Slice ℕ) → lcm_of.Post κs (a ⨾ b ⨾ out ⨾ tt) r (a ⨾ b ⨾ out′ ⨾ tt)
@@ -148,8 +132,8 @@ pub lcm-of : (κs : Lfts 3) (a b out : Slice ℕ) (r : WriteAnswer) (out′ : Sl
     × After (numberIn (ofWrite r)) (out′ .now) (out .now) (lcm (a .now) (b .now))
 lcm-of κs a b out r out′ p =
     let cs = writeChecks 255 (a .now) (b .now) (out .now) in (
-      write-first cs (p .0) (write-means (a .now) (b .now) (out .now)),
-      write-after (refusal cs) (p .0) (p .1),
+      told-first write-kind cs (p .0) (write-means (a .now) (b .now) (out .now)),
+      told-after write-kind (refusal cs) (p .0) (p .1),
     )
 
 pub gcd-of : (κs : Lfts 3) (a b out : Slice ℕ) (r : WriteAnswer) (out′ : Slice ℕ) → gcd_of.Post κs (a ⨾ b ⨾ out ⨾ tt) r (a ⨾ b ⨾ out′ ⨾ tt)
@@ -159,34 +143,30 @@ pub gcd-of : (κs : Lfts 3) (a b out : Slice ℕ) (r : WriteAnswer) (out′ : Sl
     × After (numberIn (ofWrite r)) (out′ .now) (out .now) (gcd (a .now) (b .now))
 gcd-of κs a b out r out′ p =
     let cs = writeChecks 255 (a .now) (b .now) (out .now) in (
-      write-first cs (p .0) (write-means (a .now) (b .now) (out .now)),
-      write-after (refusal cs) (p .0) (p .1),
+      told-first write-kind cs (p .0) (write-means (a .now) (b .now) (out .now)),
+      told-after write-kind (refusal cs) (p .0) (p .1),
     )
-
--- what checks 1 and 3 of two monomials say
-pair-means : (a b : List ℕ) → Means (pairChecks 255 a b) ((255 < length a, 1) ∷ (length b ≢ length a, 3) ∷ [])
-pair-means a b = (above 255 (length a), (refl, (differs (length b) (length a), (refl, tt))))
 
 pub divides-of : (κs : Lfts 2) (a b : Slice ℕ) (r : TestAnswer) → divides_of.Post κs (a ⨾ b ⨾ tt) r (a ⨾ b ⨾ tt)
     → First ((255 < length (a .now), 1) ∷ (length (b .now) ≢ length (a .now), 3) ∷ []) (numberIn (ofTest r))
-divides-of κs a b r p = test-first (pairChecks 255 (a .now) (b .now)) (divides (a .now) (b .now)) p (pair-means (a .now) (b .now))
+divides-of κs a b r p = told-first (test-kind (divides (a .now) (b .now))) (pairChecks 255 (a .now) (b .now)) p (pair-means (a .now) (b .now))
 
 pub is-coprime : (κs : Lfts 2) (a b : Slice ℕ) (r : TestAnswer) → is_coprime.Post κs (a ⨾ b ⨾ tt) r (a ⨾ b ⨾ tt)
     → First ((255 < length (a .now), 1) ∷ (length (b .now) ≢ length (a .now), 3) ∷ []) (numberIn (ofTest r))
-is-coprime κs a b r p = test-first (pairChecks 255 (a .now) (b .now)) (coprime (a .now) (b .now)) p (pair-means (a .now) (b .now))
+is-coprime κs a b r p = told-first (test-kind (coprime (a .now) (b .now))) (pairChecks 255 (a .now) (b .now)) p (pair-means (a .now) (b .now))
 
 pub cmp-lex : (κs : Lfts 2) (a b : Slice ℕ) (r : OrderAnswer) → cmp_lex.Post κs (a ⨾ b ⨾ tt) r (a ⨾ b ⨾ tt)
     → First ((255 < length (a .now), 1) ∷ (length (b .now) ≢ length (a .now), 3) ∷ []) (numberIn (ofOrder r))
-cmp-lex κs a b r p = order-first (pairChecks 255 (a .now) (b .now)) (lex (a .now) (b .now)) p (pair-means (a .now) (b .now))
+cmp-lex κs a b r p = told-first (order-kind (lex (a .now) (b .now))) (pairChecks 255 (a .now) (b .now)) p (pair-means (a .now) (b .now))
 
 pub cmp-degrevlex : (κs : Lfts 2) (a b : Slice ℕ) (r : OrderAnswer) → cmp_degrevlex.Post κs (a ⨾ b ⨾ tt) r (a ⨾ b ⨾ tt)
     → First ((255 < length (a .now), 1) ∷ (length (b .now) ≢ length (a .now), 3) ∷ []) (numberIn (ofOrder r))
-cmp-degrevlex κs a b r p = order-first (pairChecks 255 (a .now) (b .now)) (degrevlex (a .now) (b .now)) p (pair-means (a .now) (b .now))
+cmp-degrevlex κs a b r p = told-first (order-kind (degrevlex (a .now) (b .now))) (pairChecks 255 (a .now) (b .now)) p (pair-means (a .now) (b .now))
 
 -- exponents past n are ignored, and missing ones are 0: the slice is not looked at
 pub mask-of : (κs : Lfts 1) (n most : ℕ) (exponents : Slice ℕ) (r : MaskAnswer) → mask_of.Post κs (n ⨾ most ⨾ exponents ⨾ tt) r (n ⨾ most ⨾ exponents ⨾ tt)
     → First ((255 < n, 1) ∷ []) (numberIn (ofMask r))
-mask-of κs n most exponents r p = mask-first (tooWide 255 n ∷ []) (ofWords (mask n most (exponents .now))) p (above 255 n, (refl, tt))
+mask-of κs n most exponents r p = told-first (mask-kind (ofWords (mask n most (exponents .now)))) (tooWide 255 n ∷ []) p (above 255 n, (refl, tt))
 
 -- "Numerator: 1, 2, 3, 7, 8. Update: 1, 2, 3 existing, 3 new, 15, 7, 8." "After success it is the first coefficient room: the coefficients, then
 -- zeros up to the asked size. Every other room is zero in its asked part; cells beyond are untouched."
@@ -208,11 +188,11 @@ module _ (κs : Lfts 4) (n s : ℕ) (cells room : Slice ℕ) (first second : Sli
       let L : List (List ℕ) = listed n s (cells .now) in
       let cs = numeratorChecks 255 60 n s (cells .now) (room .now) (first .now) (second .now) in
       let j = length (numerator L) in (
-        length-first cs j (outcome .0)
+        told-first (length-kind j) cs (outcome .0)
             (above 255 n, (refl, (above 60 s, (refl, (differs (length (cells .now)) (s * n), (refl, rooms-means (cellsAsked n L) (coefficientsAsked L) (room .now) (first .now) (second .now))))))),
-        length-after (refusal cs) j (outcome .0) (outcome .1 .0),
-        length-after (refusal cs) j (outcome .0) (outcome .1 .1 .0),
-        length-after (refusal cs) j (outcome .0) (outcome .1 .1 .1),
+        told-after (length-kind j) (refusal cs) (outcome .0) (outcome .1 .0),
+        told-after (length-kind j) (refusal cs) (outcome .0) (outcome .1 .1 .0),
+        told-after (length-kind j) (refusal cs) (outcome .0) (outcome .1 .1 .1),
       )
 
 module _ (κs : Lfts 6) (n : ℕ) (given : Slice ℤ) (s0 : ℕ) (existing : Slice ℕ) (s1 : ℕ) (added room : Slice ℕ) (first second : Slice ℤ) (r : LengthAnswer)
@@ -237,22 +217,12 @@ module _ (κs : Lfts 6) (n : ℕ) (given : Slice ℤ) (s0 : ℕ) (existing : Sli
       let G : List ℤ = given .now in
       let cs = updateChecks 255 60 (2 ^ 61) n G s0 (existing .now) s1 (added .now) (room .now) (first .now) (second .now) in
       let j = length (update G L K) in (
-        length-first cs j (outcome .0)
+        told-first (length-kind j) cs (outcome .0)
             (above 255 n, (refl, (above 60 (s0 + s1), (refl, (differs (length (existing .now)) (s0 * n), (refl, (differs (length (added .now)) (s1 * n), (refl, (coefficient-beyond (2 ^ 61) G, (refl, rooms-means (cellsAsked n (L ++ K)) (updateAsked G (L ++ K)) (room .now) (first .now) (second .now))))))))))),
-        length-after (refusal cs) j (outcome .0) (outcome .1 .0),
-        length-after (refusal cs) j (outcome .0) (outcome .1 .1 .0),
-        length-after (refusal cs) j (outcome .0) (outcome .1 .1 .1),
+        told-after (length-kind j) (refusal cs) (outcome .0) (outcome .1 .0),
+        told-after (length-kind j) (refusal cs) (outcome .0) (outcome .1 .1 .0),
+        told-after (length-kind j) (refusal cs) (outcome .0) (outcome .1 .1 .1),
       )
-
--- what `hf_at` leaves in the sum room, by its four checks
-sums-left : (a b c t : Bool) (w y x : List ℕ) → w ≡ after (refusal ((a, Width) ∷ (b, Degree) ∷ (c, SumRoom) ∷ [])) y x
-    → let k = status (refusal ((a, Width) ∷ (b, Degree) ∷ (c, SumRoom) ∷ (t, Value) ∷ [])) in
-    ((k ≡ 0) ⊎ (k ≡ 11) → w ≡ y) × (k ≢ 0 → k ≢ 11 → w ≡ x)
-sums-left true b c t w y x e = (λ h. absurd (elim h [ inl p ↦ omega arith | inr p ↦ omega arith ]), λ h g. e)
-sums-left false true c t w y x e = (λ h. absurd (elim h [ inl p ↦ omega arith | inr p ↦ omega arith ]), λ h g. e)
-sums-left false false true t w y x e = (λ h. absurd (elim h [ inl p ↦ omega arith | inr p ↦ omega arith ]), λ h g. e)
-sums-left false false false true w y x e = (λ h. e, λ h g. absurd (g refl))
-sums-left false false false false w y x e = (λ h. e, λ h g. absurd (h refl))
 
 -- "hf_at: 1, 10, 9, 11." The first exception: "the sum room after 11 of `hf_at`, zero in its asked part".
 module _ (κs : Lfts 2) (n : ℕ) (given : Slice ℤ) (d : ℕ) (sums : Slice ℕ) (r : SignedAnswer) (sums′ : Slice ℕ)
@@ -265,9 +235,9 @@ module _ (κs : Lfts 2) (n : ℕ) (given : Slice ℤ) (d : ℕ) (sums : Slice �
   hf-at =
       let cs = hilbertChecks 255 65536 n (given .now) d (sums .now) in
       let k = numberIn (ofSigned r) in
-      let e : k ≡ status (refusal cs) = ap (λ (a : SignedAnswer). numberIn (ofSigned a)) (outcome .0) ∙ signed-number (refusal cs) (hilbert (given .now) n d) in
+      let e : k ≡ status (refusal cs) = ap (λ (a : SignedAnswer). numberIn (ofSigned a)) (outcome .0) ∙ signed-kind (hilbert (given .now) n d) .law (refusal cs) in
       let left = sums-left (ltb 255 n) (ltb 65536 d) (ltb (length (sums .now)) (4 * (d + 1))) (leb (2 ^ 127) (hilbertSize (given .now) n d)) (sums′ .now) (wiped 0 (4 * (d + 1)) (sums .now)) (sums .now) (outcome .1) in (
-        signed-first cs (hilbert (given .now) n d) (outcome .0)
+        told-first (signed-kind (hilbert (given .now) n d)) cs (outcome .0)
             (above 255 n, (refl, (above 65536 d, (refl, (above (length (sums .now)) (4 * (d + 1)), (refl, (reaches (2 ^ 127) (hilbertSize (given .now) n d), (refl, tt)))))))),
         λ h. left .0 (rw e at h),
         λ h g. left .1 (rw e at h) (rw e at g),
@@ -297,13 +267,13 @@ module _ (κs : Lfts 5) (n s : ℕ) (cells room : Slice ℕ) (first second : Sli
       let L : List (List ℕ) = listed n s (cells .now) in
       let cs = dimensionChecks 255 60 65536 n s (cells .now) (room .now) (first .now) (second .now) (sums .now) in
       let ds = boundChecks 65536 n L ++ roomChecks n L (room .now) (first .now) (second .now) (sums .now) in
-      let e : numberIn (ofDimension r) ≡ status (refusal cs) = ap (λ (a : DimensionAnswer). numberIn (ofDimension a)) (outcome .0) ∙ dimension-number (refusal cs) n L in (
+      let e : numberIn (ofDimension r) ≡ status (refusal cs) = ap (λ (a : DimensionAnswer). numberIn (ofDimension a)) (outcome .0) ∙ dimension-kind n L .law (refusal cs) in (
         rw e (list-first n s (cells .now) (cond (atOnce n L) [] ds) (early-first (unitIn L) (eqb n 0) ds (unit-in L) (equals n 0)
             (no-dimension 65536 n L, (refl, (reaches (2 ^ 127) (powersProduct n L), (refl, (above (length (room .now)) (cellsAsked n L), (refl, (either (ltb (length (first .now)) (coefficientsAsked L)) (ltb (length (second .now)) (coefficientsAsked L)) (above (length (first .now)) (coefficientsAsked L)) (above (length (second .now)) (coefficientsAsked L)), (refl, (above (length (sums .now)) (2 * (degreeBound n L + 1)), (refl, tt)))))))))))),
-        dimension-after (refusal cs) n L (outcome .0) (outcome .1 .0),
-        dimension-after (refusal cs) n L (outcome .0) (outcome .1 .1 .0),
-        dimension-after (refusal cs) n L (outcome .0) (outcome .1 .1 .1 .0),
-        dimension-after (refusal cs) n L (outcome .0) (outcome .1 .1 .1 .1),
+        told-after (dimension-kind n L) (refusal cs) (outcome .0) (outcome .1 .0),
+        told-after (dimension-kind n L) (refusal cs) (outcome .0) (outcome .1 .1 .0),
+        told-after (dimension-kind n L) (refusal cs) (outcome .0) (outcome .1 .1 .1 .0),
+        told-after (dimension-kind n L) (refusal cs) (outcome .0) (outcome .1 .1 .1 .1),
       )
 
 -- "Record writer: 1, 2, 3, 14. Reader: 12, 4 for a place; 12, 14 for the copy."
@@ -316,19 +286,19 @@ module _ (κs : Lfts 2) (n s : ℕ) (cells out : Slice ℕ) (r : SizeAnswer) (ou
   write-record =
       let cs = writeRecordChecks 255 60 n s (cells .now) (out .now) in
       let j = length (idealRecord n (listed n s (cells .now))) in (
-        size-first cs j (outcome .0)
+        told-first (size-kind j) cs (outcome .0)
             (above 255 n, (refl, (above 60 s, (refl, (differs (length (cells .now)) (s * n), (refl, (above (length (out .now)) j, (refl, tt)))))))),
-        size-after (refusal cs) j (outcome .0) (outcome .1),
+        told-after (size-kind j) (refusal cs) (outcome .0) (outcome .1),
       )
 
 -- what bytes are a record is demand 3's to say
 module _ (κs : Lfts 1) (rec : Slice ℕ) (k : ℕ) (r : CheckAnswer) (outcome : check_place.Post κs (rec ⨾ k ⨾ tt) r (rec ⨾ k ⨾ tt)) where
   pub check-place : First ((isRecord 60 (rec .now) ≡ false, 12) ∷ (countIn (rec .now) ≤ k, 4) ∷ []) (numberIn (ofCheck r 0))
-  check-place = check-first (placeChecks 60 (rec .now) k) outcome (fails (isRecord 60 (rec .now)), (refl, (reaches (countIn (rec .now)) k, (refl, tt))))
+  check-place = told-first check-kind (placeChecks 60 (rec .now) k) outcome (fails (isRecord 60 (rec .now)), (refl, (reaches (countIn (rec .now)) k, (refl, tt))))
 
   -- "Where it refuses, the part is empty, and a check call on the same record and place gives the number."
   pub place : (λs : Lfts 1) (part : Slice ℕ) → place_of.Post λs (rec ⨾ k ⨾ tt) part (rec ⨾ k ⨾ tt) → After (numberIn (ofCheck r 0)) (part .now) [] (partOf (rec .now) k)
-  place λs part p = check-after (refusal (placeChecks 60 (rec .now) k)) outcome p
+  place λs part p = told-after check-kind (refusal (placeChecks 60 (rec .now) k)) outcome p
 
 module _ (κs : Lfts 2) (rec cells : Slice ℕ) (r : CopyAnswer) (cells′ : Slice ℕ) (outcome : «copy_record».Post κs (rec ⨾ cells ⨾ tt) r (rec ⨾ cells′ ⨾ tt)) where
   pub copy-record : let k = numberIn (ofCopy r) in let size = countIn (rec .now) * widthIn (rec .now) in
@@ -337,8 +307,8 @@ module _ (κs : Lfts 2) (rec cells : Slice ℕ) (r : CopyAnswer) (cells′ : Sli
   copy-record =
       let cs = copyChecks 60 (rec .now) (cells .now) in
       let size = countIn (rec .now) * widthIn (rec .now) in (
-        copy-first cs (widthIn (rec .now)) (countIn (rec .now)) (outcome .0) (fails (isRecord 60 (rec .now)), (refl, (above (length (cells .now)) size, (refl, tt)))),
-        copy-after (refusal cs) (widthIn (rec .now)) (countIn (rec .now)) (outcome .0) (outcome .1),
+        told-first (copy-kind (widthIn (rec .now)) (countIn (rec .now))) cs (outcome .0) (fails (isRecord 60 (rec .now)), (refl, (above (length (cells .now)) size, (refl, tt)))),
+        told-after (copy-kind (widthIn (rec .now)) (countIn (rec .now))) (refusal cs) (outcome .0) (outcome .1),
       )
 
 module _ (κs : Lfts 1) (code : ℕ) (x : Wide) (top : ℕ) (out : Slice ℕ) (r : CheckAnswer) (out′ : Slice ℕ)
@@ -348,7 +318,7 @@ module _ (κs : Lfts 1) (code : ℕ) (x : Wide) (top : ℕ) (out : Slice ℕ) (r
       × After k (out′ .now) (out .now) (answerOf code (value x) top ++ drop 26 (out .now))
   write-answer =
       let cs = answerChecks 26 (out .now) in
-      (check-first cs (outcome .0) (above (length (out .now)) 26, (refl, tt)), check-after (refusal cs) (outcome .0) (outcome .1))
+      (told-first check-kind cs (outcome .0) (above (length (out .now)) 26, (refl, tt)), told-after check-kind (refusal cs) (outcome .0) (outcome .1))
 
 -- "Host call: 14, 12, then the dimension's", in the call's own rooms.
 abbrev pub hostRules : List ℕ → List ℕ → List Rule
@@ -380,13 +350,6 @@ host-first rec out =
     (no-dimension 65536 n L, (refl, (reaches (2 ^ 127) (powersProduct n L), (refl, (above 16384 (cellsAsked n L), (refl, (twice (ltb 4096 (coefficientsAsked L)) (above 4096 (coefficientsAsked L)), (refl, (above 4096 (2 * (degreeBound n L + 1)), (refl, tt)))))))))))))
 
 -- The second exception: "after 14 nothing is written, after any other refusal the answer record carries it", with both numbers 0.
-module _ (rec out out′ : List ℕ) (k : ℕ) (e : out′ ≡ answerBytes 26 k (dimension (widthIn rec) (listIn rec)) (topDegree (widthIn rec) (listIn rec)) out) where
-  host-kept : length out < 26 → out′ ≡ out
-  host-kept h = e ∙ rw (lt-ltb (length out) 26 h)
-
-  host-written : 26 ≤ length out → out′ ≡ answerOf k (dimension (widthIn rec) (listIn rec)) (topDegree (widthIn rec) (listIn rec)) ++ drop 26 out
-  host-written h = e ∙ ap (λ (t : Bool). after (refusal ((t, Output) ∷ [])) (answerOf k (dimension (widthIn rec) (listIn rec)) (topDegree (widthIn rec) (listIn rec)) ++ drop 26 out) out) (le-ltb (length out) 26 h)
-
 module _ (κs : Lfts 2) (rec out : Slice ℕ) (r : CheckAnswer) (out′ : Slice ℕ) (outcome : «answer_record».Post κs (rec ⨾ out ⨾ tt) r (rec ⨾ out′ ⨾ tt)) where
   pub answer-record : let n = widthIn (rec .now) in let L = listIn (rec .now) in let k = numberIn (ofCheck r 0) in
       First (hostRules (rec .now) (out .now)) k
@@ -394,7 +357,7 @@ module _ (κs : Lfts 2) (rec out : Slice ℕ) (r : CheckAnswer) (out′ : Slice 
       × (26 ≤ length (out .now) → out′ .now ≡ answerOf k (dimension n L) (topDegree n L) ++ drop 26 (out .now))
   answer-record =
       let cs = hostChecks 255 60 65536 26 (rec .now) (out .now) in
-      let e : numberIn (ofCheck r 0) ≡ status (refusal cs) = ap (λ (a : CheckAnswer). numberIn (ofCheck a 0)) (outcome .0) ∙ check-number (refusal cs) in
+      let e : numberIn (ofCheck r 0) ≡ status (refusal cs) = ap (λ (a : CheckAnswer). numberIn (ofCheck a 0)) (outcome .0) ∙ check-kind .law (refusal cs) in
       rw e (host-first (rec .now) (out .now), host-kept (rec .now) (out .now) (out′ .now) (status (refusal cs)) (outcome .1), host-written (rec .now) (out .now) (out′ .now) (status (refusal cs)) (outcome .1))
 
 module _ (κs : Lfts 2) (rec out : Slice ℕ) (r : ℕ) (out′ : Slice ℕ) (outcome : purlthicket_dim.Post κs (rec ⨾ out ⨾ tt) r (rec ⨾ out′ ⨾ tt)) where
@@ -405,6 +368,13 @@ module _ (κs : Lfts 2) (rec out : Slice ℕ) (r : ℕ) (out′ : Slice ℕ) (ou
   purlthicket-dim =
       let k = status (refusal (hostChecks 255 60 65536 26 (rec .now) (out .now))) in
       rw (outcome .0) (host-first (rec .now) (out .now), host-kept (rec .now) (out .now) (out′ .now) k (outcome .1), host-written (rec .now) (out .now) (out′ .now) k (outcome .1))
+
+  -- A record has a width below 256, at most 60 monomials and all their exponents: where the answer record is written, its status, byte 5, is
+  -- the number, and is never 1, 2, 3 or 14.
+  pub host-status : Below 256 (rec .now) → 26 ≤ length (out .now) → let k = getD (out′ .now) 5 0 in (k ≡ r) × (k ≢ 1) × (k ≢ 2) × (k ≢ 3) × (k ≢ 14)
+  host-status bytes room =
+      let (a, b, c, d) = status-never 255 60 65536 26 (rec .now) (out .now) room (bytes-by (rec .now) (λ i l. bytes i)) (lit≤ tt) in
+      rw (outcome .1) (status-written 255 60 65536 26 (rec .now) (out .now) room ∙ sym (outcome .0), a, b, c, d)
 
 -- No product is formed that could wrap: s = 2^63 with n = 2 is 2, whatever the cells, and so are 2^63 existing and 2^63 new monomials
 

@@ -4,7 +4,7 @@
 use mathlib.Core.Path.{_≡_, refl, sym, ap, ap₂, subst, _∙_}
 use mathlib.Core.Bool.{Bool, true, false, not, _&&_, _||_, false≢true}
 use mathlib.Core.List.{List, [], _∷_, _++_, append-assoc}
-use mathlib.Core.Option.{Option, none, some}
+use mathlib.Core.Option.{Option, none}
 use Prim.Native.Nat.{ℕ, zero, suc, _+_, _*_, _-_, _^_, _≤_, _<_}
 use native.Mathlib.Omega.{arith}
 use lib.Dec.{leb, ltb, eqb}
@@ -15,7 +15,7 @@ use borrow.Author.Tests.{leb-true, le-ltb, lt-leb, ltb-true, eqb-true, eq-eqb, n
 use contract.Lifetimes.{Lfts}
 use Rattle.laws.specs.Coefficients.{first as firstOf}
 use Rattle.laws.specs.Count.{equal, HF}
-use Rattle.laws.specs.Dimension.{finite, degreeBound, powersProduct, dimension, topDegree}
+use Rattle.laws.specs.Dimension.{degreeBound, powersProduct, dimension, topDegree}
 use Rattle.laws.specs.Hilbert.{hilbert, hilbertSize}
 use Rattle.laws.specs.Ideal.{listed}
 use Rattle.laws.specs.Numerator.{numerator, update}
@@ -23,7 +23,7 @@ use Rattle.laws.specs.Record.{idealRecord, widthIn, listIn}
 use Rattle.laws.specs.Room.{pairs, cellsAsked, coefficientsAsked, updateAsked}
 use Rattle.laws.proofs.Enumeration.{equal-eq}
 use Rattle.laws.proofs.Monomial.{and-left, and-right}
-use Rattle.monomials.specs.Refusal.{Check, refusal, after}
+use Rattle.monomials.specs.Refusal.{refusal, after}
 use Rattle.monomials.specs.declared.refusal.Refusal.{Refusal}
 use Rattle.monomials.specs.declared.refusal.Refusal.the-variants.{Output}
 use Rattle.numbers.specs.Dimension.{atOnce, noDimension, dimensionIs, dimensionChecks, dimensionAnswer}
@@ -35,7 +35,6 @@ use Rattle.numbers.specs.declared.dimension.DimensionAnswer.{DimensionAnswer}
 use Rattle.numbers.specs.declared.hf_at.SignedAnswer.{SignedAnswer}
 use Rattle.numbers.specs.declared.numerator.LengthOutcome.{LengthOutcome}
 use Rattle.numbers.specs.declared.numerator.LengthAnswer.{LengthAnswer}
-use Rattle.numbers.proofs.numerator.hilbert_numerator.Reads as hilbert_numerator
 use Rattle.records.specs.Answer.{answerOf as answerBytesOf}
 use Rattle.records.specs.Host.{recordChecks, hostChecks, hostNumber, status}
 use Rattle.records.specs.Ideal.{notRecord, writeChecks, writeAnswer, writeBytes}
@@ -46,7 +45,8 @@ use Rattle.bridge.specs.Numbers.{ofDimension}
 use Rattle.promises.specs.Promise.{Slice, _⨾_}
 use Rattle.promises.specs.Stars.{Row, Says, SaysLine, stars}
 use Rattle.promises.proofs.Refusals.{purlthicket-dim}
-use Rattle.promises.proofs.Records.{writes, bytes-put}
+use Rattle.promises.proofs.Given.{numerator-done, update-done, value-done, dimension-done, writes}
+use Rattle.promises.proofs.Records.{bytes-put}
 use Rattle.promises.specs.Stars.Row.{coefficients, counts, dimensionOf, noDimensionOf, recordOf, answerOf, sizes, updated, valueAt}
 
 -- the tests
@@ -139,42 +139,27 @@ coefficients-hold n s cells N h κs list room first second r room′ first′ se
     let L : List (List ℕ) = listed n s cells in
     let (f, g) = both (isList n s cells) (sameAll (numerator L) N) h in
     let (w, m, i) = list-fits n s cells f in
-    let none-refused : refusal (numeratorChecks 255 60 n s cells (room .now) (first .now) (second .now)) ≡ none = rw (le-ltb 255 n w, le-ltb 60 s m, eq-eqb (length cells) (s * n) i, le-ltb (length (room .now)) (cellsAsked n L) c, le-ltb (length (first .now)) (coefficientsAsked L) k, le-ltb (length (second .now)) (coefficientsAsked L) l) in
+    let none-refused = numerator-done n s cells (room .now) (first .now) (second .now) w m i c k l in
     let (a, b) = coefficients-put (refusal (numeratorChecks 255 60 n s cells (room .now) (first .now) (second .now))) (numerator L) N (first .now) (coefficientsAsked L) none-refused (sameAll-eq (numerator L) N g) in (
       ap (λ (y : LengthAnswer). y .outcome) (p .0 ∙ ap (λ (cs : List ℕ). numeratorAnswer 255 60 n s cs (room .now) (first .now) (second .now)) e) ∙ a,
       ap (take (length N)) (p .1 .1 .0 ∙ ap (λ (cs : List ℕ). numeratorFirst 255 60 n s cs (room .now) (first .now) (second .now)) e) ∙ b,
     )
 
-module _ (n s : ℕ) (cells room : List ℕ) (p q : List ℤ) (sums : List ℕ) (fits : isList n s cells ≡ true) where
-  abbrev L : List (List ℕ)
-  L = listed n s cells
-
-  -- nothing is refused
-  dimension-done : hasDimension n L ≡ true
-      → (atOnce n L ≡ false → (cellsAsked n L ≤ length room) × (coefficientsAsked L ≤ length p) × (coefficientsAsked L ≤ length q) × (2 * (degreeBound n L + 1) ≤ length sums))
-      → refusal (dimensionChecks 255 60 65536 n s cells room p q sums) ≡ none
-  dimension-done h enough = go (atOnce n L) refl
-    where
-      go : (t : Bool) → atOnce n L ≡ t → refusal (dimensionChecks 255 60 65536 n s cells room p q sums) ≡ none
-      go true e = let (w, m, i) = list-fits n s cells fits in rw (le-ltb 255 n w, le-ltb 60 s m, eq-eqb (length cells) (s * n) i, e)
-      go false e =
-          let (w, m, i) = list-fits n s cells fits in
-          let (a, b) = both (not (noDimension 65536 n L)) (ltb (powersProduct n L) (2 ^ 127)) (rw e at h) in
-          let (c, d, f, g) = enough e in
-          rw (le-ltb 255 n w, le-ltb 60 s m, eq-eqb (length cells) (s * n) i, e, not-true (noDimension 65536 n L) a, lt-leb (2 ^ 127) (powersProduct n L) (ltb-true (powersProduct n L) (2 ^ 127) b), le-ltb (length room) (cellsAsked n L) c, le-ltb (length p) (coefficientsAsked L) d, le-ltb (length q) (coefficientsAsked L) f, le-ltb (length sums) (2 * (degreeBound n L + 1)) g)
-
-  dimension-refused : (not (atOnce n L) && noDimension 65536 n L) ≡ true → numberIn (ofDimension (dimensionAnswer 255 60 65536 n s cells room p q sums)) ≡ 13
-  dimension-refused h =
-      let (w, m, i) = list-fits n s cells fits in
-      let (a, b) = both (not (atOnce n L)) (noDimension 65536 n L) h in
-      rw (le-ltb 255 n w, le-ltb 60 s m, eq-eqb (length cells) (s * n) i, not-true (atOnce n L) a, b)
+dimension-refused : (n s : ℕ) (cells room : List ℕ) (p q : List ℤ) (sums : List ℕ) → n ≤ 255 → s ≤ 60 → length cells ≡ s * n → atOnce n (listed n s cells) ≡ false → noDimension 65536 n (listed n s cells) ≡ true
+    → numberIn (ofDimension (dimensionAnswer 255 60 65536 n s cells room p q sums)) ≡ 13
+dimension-refused n s cells room p q sums w m i a b = rw (le-ltb 255 n w, le-ltb 60 s m, eq-eqb (length cells) (s * n) i, a, b)
 
 dimension-holds : (n s : ℕ) (cells : List ℕ) (x : ℕ) → test (dimensionOf n s cells x) ≡ true → Says (dimensionOf n s cells x)
 dimension-holds n s cells x h κs list room first second sums r room′ first′ second′ sums′ p e enough =
     let L : List (List ℕ) = listed n s cells in
     let (f, g) = both (isList n s cells) (hasDimension n L && eqb (value (wide (dimension n L))) x) h in
     let (a, b) = both (hasDimension n L) (eqb (value (wide (dimension n L))) x) g in
-    let o = dimension-done n s cells (room .now) (first .now) (second .now) (sums .now) f a enough in (
+    let (w, m, i) = list-fits n s cells f in
+    let o = dimension-done n s cells (room .now) (first .now) (second .now) (sums .now) w m i
+    (λ once.
+    let (c, d) = both (not (noDimension 65536 n L)) (ltb (powersProduct n L) (2 ^ 127)) (rw once at a) in
+    let (j, k, l, t) = enough once in
+    (not-true (noDimension 65536 n L) c, ltb-true (powersProduct n L) (2 ^ 127) d, j, k, l, t)) in (
       record { dimension = wide (dimension n L); top = topDegree n L },
       ap (λ (y : DimensionAnswer). y .outcome) (p .0 ∙ ap (λ (cs : List ℕ). dimensionAnswer 255 60 65536 n s cs (room .now) (first .now) (second .now) (sums .now)) e) ∙ ap (λ (v : Option Refusal). dimensionIs v n L .outcome) o,
       eqb-true (value (wide (dimension n L))) x b,
@@ -184,8 +169,10 @@ no-dimension-holds : (n s : ℕ) (cells : List ℕ) → test (noDimensionOf n s 
 no-dimension-holds n s cells h κs list room first second sums r room′ first′ second′ sums′ p e =
     let L : List (List ℕ) = listed n s cells in
     let (f, g) = both (isList n s cells) (not (atOnce n L) && noDimension 65536 n L) h in
+    let (a, b) = both (not (atOnce n L)) (noDimension 65536 n L) g in
+    let (w, m, i) = list-fits n s cells f in
     ap (λ (y : DimensionAnswer). numberIn (ofDimension y)) (p .0 ∙ ap (λ (cs : List ℕ). dimensionAnswer 255 60 65536 n s cs (room .now) (first .now) (second .now) (sums .now)) e)
-    ∙ dimension-refused n s cells (room .now) (first .now) (second .now) (sums .now) f g
+    ∙ dimension-refused n s cells (room .now) (first .now) (second .now) (sums .now) w m i (not-true (atOnce n L) a) b
 
 record-holds : (n s : ℕ) (cells bytes : List ℕ) → test (recordOf n s cells bytes) ≡ true → Says (recordOf n s cells bytes)
 record-holds n s cells bytes h κs list out r out′ p e l =
@@ -223,17 +210,6 @@ sizes-hold n s cells e c k h =
     let (b, d) = both (eqb (cellsAsked n L) c) (eqb (coefficientsAsked L) k) g in
     (eqb-true (pairs n L) e a, eqb-true (cellsAsked n L) c b, eqb-true (coefficientsAsked L) k d)
 
--- nothing is refused
-update-done : (n : ℕ) (G : List ℤ) (s0 : ℕ) (existing : List ℕ) (s1 : ℕ) (added room : List ℕ) (p q : List ℤ)
-    → n ≤ 255 → s0 + s1 ≤ 60 → length existing ≡ s0 * n → length added ≡ s1 * n → beyond (2 ^ 61) G ≡ false
-    → cellsAsked n (listed n s0 existing ++ listed n s1 added) ≤ length room
-    → updateAsked G (listed n s0 existing ++ listed n s1 added) ≤ length p
-    → updateAsked G (listed n s0 existing ++ listed n s1 added) ≤ length q
-    → refusal (updateChecks 255 60 (2 ^ 61) n G s0 existing s1 added room p q) ≡ none
-update-done n G s0 existing s1 added room p q w m i j b c k l =
-    let J : List (List ℕ) = listed n s0 existing ++ listed n s1 added in
-    rw (le-ltb 255 n w, le-ltb 60 (s0 + s1) m, eq-eqb (length existing) (s0 * n) i, eq-eqb (length added) (s1 * n) j, b, le-ltb (length room) (cellsAsked n J) c, le-ltb (length p) (updateAsked G J) k, le-ltb (length q) (updateAsked G J) l)
-
 update-holds : (n : ℕ) (G : List ℤ) (s0 : ℕ) (existing : List ℕ) (s1 : ℕ) (added : List ℕ) (N : List ℤ) → test (updated n G s0 existing s1 added N) ≡ true → Says (updated n G s0 existing s1 added N)
 update-holds n G s0 existing s1 added N h κs given old new room first second r room′ first′ second′ p eg eo en c k l =
     let U : List ℤ = update G (listed n s0 existing) (listed n s1 added) in
@@ -256,11 +232,6 @@ update-holds n G s0 existing s1 added N h κs given old new room first second r 
           ∙ ap₂ (λ (a b : List ℕ). updateFirst 255 60 (2 ^ 61) n G s0 a s1 b (room .now) (first .now) (second .now)) eo en)
           ∙ y,
     )
-
--- nothing is refused
-value-done : (n : ℕ) (p : List ℤ) (d : ℕ) (sums : List ℕ) → n ≤ 255 → d ≤ 65536 → hilbertSize p n d < 2 ^ 127 → 4 * (d + 1) ≤ length sums → refusal (hilbertChecks 255 65536 n p d sums) ≡ none
-value-done n p d sums w m b l =
-    rw (le-ltb 255 n w, le-ltb 65536 d m, le-ltb (length sums) (4 * (d + 1)) l, lt-leb (2 ^ 127) (hilbertSize p n d) b)
 
 value-holds : (p : List ℤ) (n d : ℕ) (z : ℤ) → test (valueAt p n d z) ≡ true → Says (valueAt p n d z)
 value-holds p n d z h κs given sums r sums′ o e l =
