@@ -1,4 +1,5 @@
--- Demand 2: the numbers are right. Each law speaks of any outcome that the call's contract allows, as the source states it: r is the answer,
+-- Demand 2: "for any list not refused, up to 255 variables and 60 monomials, the numerator gives for each degree the number of monomials that no
+-- listed one divides; a dimension is the count of all such monomials." Each law speaks of any outcome that the call's contract allows, as the source states it: r is the answer,
 -- and what has a prime is what a lent slice holds afterwards.
 --   enumerated                        the list behind HF has each monomial of its degree and width exactly once, and nothing else
 --   numerator-given, numerator-counts, numerator-only  hilbert_numerator
@@ -116,8 +117,8 @@ module _ (κs : Lfts 4) (n s : ℕ) (cells room : Slice ℕ) (first second : Sli
       let e = coefficients-there o (numerator L) (first .now) (coefficientsAsked L) k (ap (λ (a : LengthAnswer). a .outcome) (sym (outcome .0)) ∙ answer) in
       (e .0, ap (take k) (outcome .1 .1 .0) ∙ e .1)
 
-  -- "For any list that is not refused the coefficients in the first room are trimmed, and for every degree d their n-fold sums are the number
-  -- of degree-d monomials that no listed one divides. The result is the trimmed length."
+  -- "The numerator gives for each degree the number of monomials that no listed one divides": the coefficients in the first room are trimmed,
+  -- as many as the answer says, and for every degree d 01's sum of them is HF(d).
   pub numerator-counts :
       (length (take k (first′ .now)) ≡ k)
       × Trimmed (take k (first′ .now))
@@ -314,8 +315,7 @@ module _ (κs : Lfts 5) (n s : ℕ) (cells room : Slice ℕ) (first second : Sli
       let (o, e, t) = dimension-there (refusal (dimensionChecks 255 60 65536 n s (cells .now) (room .now) (first .now) (second .now) (sums .now))) n L x (ap (λ (a : DimensionAnswer). a .outcome) (sym (outcome .0)) ∙ answer) in
       (accepted n s (cells .now) (room .now) (first .now) (second .now) (sums .now) o, e, t)
 
-  -- "The dimension is the number of all monomials that no listed one divides": the length of a list that has each of them exactly once and
-  -- nothing else.
+  -- "A dimension is the count of all such monomials": the length of a list that has each of them exactly once and nothing else.
   pub dimension-counts : let L = listed n s (cells .now) in Standards n L (standards n L) × (value (x .dimension) ≡ length (standards n L))
   dimension-counts =
       let L : List (List ℕ) = listed n s (cells .now) in

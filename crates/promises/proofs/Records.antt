@@ -1,4 +1,4 @@
--- Demand 3: one ideal, one record. Each law speaks of any outcome that the call's contract allows, as the source states it. Cells are 16-bit
+-- Demand 3: "One ideal, one record." Each law speaks of any outcome that the call's contract allows, as the source states it. Cells are 16-bit
 -- numbers and bytes 8-bit numbers, as the types of the slices say.
 --   same-bytes                two accepted lists
 --   record-shortest, record-size   the list in the record

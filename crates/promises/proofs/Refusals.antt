@@ -1,4 +1,6 @@
--- Demand 1: every public call refuses exactly under document 01's conditions, in 01's order, and what each lent slice then holds. Each law
+-- Demand 1: "No list, number or record can make it misbehave or run on. Every public call checks its own input and refuses by number, under
+-- exactly the condition that document 01 states, and 01 says what each buffer then holds." That each call returns and does nothing undefined,
+-- whatever it is given, is what the checker proves of every function without a `requires`; here are the conditions and the buffers. Each law
 -- speaks of any outcome that the call's contract allows, as the source states it: r is the answer, `numberIn (of.. r)` its number, and what
 -- has a prime is what a lent slice holds afterwards. `First` says which of 01's conditions decides, and no other number is possible
 -- (`first-exactly`); `After` says what a slice holds. Calls that are not named here have no refusal to tell.
