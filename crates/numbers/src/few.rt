@@ -91,17 +91,3 @@ pub(crate) fn few(
     }
     add_shifted(out, shift, seed, neg);
 }
-
-// How many monomials are few, for a seed of so many coefficients.
-pub(crate) fn few_limit(len: usize) -> usize {
-    if len <= 4 {
-        return 14;
-    }
-    if len <= 16 {
-        return 12;
-    }
-    if len <= 64 {
-        return 10;
-    }
-    8
-}
