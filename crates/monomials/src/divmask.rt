@@ -75,7 +75,11 @@ fn mask_bit(n: usize, max_deg: u16, exps: &[u16], i: usize) -> bool
     if n <= v {
         return false;
     }
-    threshold_of(each, max_deg, i % each) < exponent_at(exps, v)
+    let x = exponent_at(exps, v);
+    if x == 0 {
+        return false;
+    }
+    threshold_of(each, max_deg, i % each) < x
 }
 
 // Bits a variable.

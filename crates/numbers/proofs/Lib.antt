@@ -10,6 +10,7 @@ mod UpdateCall
 mod LeastPowers
 mod WideSums
 mod DimensionCall
+mod FewRows
 pub mod SignedValue
 pub mod DeterminedHilbert
 pub mod DeterminedNumerator

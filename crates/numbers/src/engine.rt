@@ -3,7 +3,6 @@
 // monomials, so the depth is at most their number.
 use crate::branch::sum_branch;
 use crate::few::few;
-use crate::few::few_limit;
 use crate::hints::look;
 use crate::leaf::leaf;
 use crate::leaf::zero;
@@ -111,13 +110,12 @@ pub(crate) fn add_numerator(
 {
     let mut left = m;
     let mut at = shift;
-    let t = few_limit(seed.len());
     while at < out.len() {
-        if left <= t {
+        let h = look(room, n, left, seed.len());
+        if h.few {
             few(room, n, left, false, false, at, seed, out);
             return;
         }
-        let h = look(room, n, left);
         let w = out.len() - at;
         let b = regroup(room, n, left, h.part, level, w);
         if b > 0 {

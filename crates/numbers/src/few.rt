@@ -2,60 +2,131 @@
 use crate::leaf::add_shifted;
 use crate::leaf::degree;
 use crate::minimal::less;
-ghost use mathlib.Core.Bool.{Bool, true, _||_};
+ghost use mathlib.Core.Bool.{true};
 ghost use mathlib.Core.List.{[]};
 ghost use mathlib.Core.Path.{_≡_};
 ghost use Prim.Native.Nat.{ℕ, _+_, _-_, _*_, _<_, _≤_};
-ghost use lib.Dec.{eqb};
 ghost use lib.IntN.{pos};
 ghost use lib.ListN.{length, getD};
 ghost use Rattle.laws.specs.Coefficients.{coefficient, shift as shifted};
+ghost use Rattle.laws.specs.Monomial.{degree as degreeOf, quotient};
 ghost use Rattle.laws.specs.Numerator.{numeratorAt};
 ghost use Rattle.laws.proofs.Added.{AddedTo};
-ghost use Rattle.laws.proofs.Few.{Quotients};
+ghost use Rattle.laws.proofs.Few.{Quotients, factor};
 ghost use Rattle.laws.proofs.Leaf.{by};
 ghost use Rattle.laws.proofs.Rows.{Wrote, rows};
 ghost use Rattle.laws.proofs.Seed.{seeded};
 
-// The quotient of the n cells from `from` by those from `by`, in n cells from `to`.
-fn divide(room: &mut [u16], from: usize, by: usize, to: usize, n: usize)
+// Whether every exponent up to z, as well as those before it, is 0.
+fn still(unit: bool, z: u16) -> bool
+    ensures { λ r. ⌜ (r ≡ true → (unit ≡ true) × (z ≡ 0)) ⌝ }
+{
+    if z == 0 { unit } else { false }
+}
+
+// The quotient of the n cells from `from` by those from `by`, in n cells from `to`; whether it is the unit.
+fn divide(room: &mut [u16], from: usize, by: usize, to: usize, n: usize) -> bool
     requires { ⌜ (from + n ≤ to) × (by + n ≤ to) × (to + n ≤ length (now room)) ⌝ }
     ensures { λ _. ⌜ Wrote (now (room .entry)) (λ j. getD (now (room .entry)) (from + j) 0 - getD (now (room .entry)) (by + j) 0) to n (now (room .exit)) ⌝ }
+    ensures { λ r. ⌜ (r ≡ true → (j : ℕ) → j < n → getD (now (room .entry)) (from + j) 0 - getD (now (room .entry)) (by + j) 0 ≡ 0) ⌝ }
 {
+    let mut unit = true;
     let mut i: usize = 0;
     while i < n {
         let x = room[from + i];
         let y = room[by + i];
-        room[to + i] = less(x, y);
+        let z = less(x, y);
+        room[to + i] = z;
+        unit = still(unit, z);
         i += 1;
     }
+    unit
 }
 
-// Whether a monomial is the unit, by its degree d, or one before it was.
-fn either(unit: bool, d: usize) -> bool
-    ensures { λ r. ⌜ r ≡ (eqb d 0 || unit) ⌝ }
-{
-    if d == 0 { true } else { unit }
-}
-
-// The quotients of the first k monomials by number k, behind those k + 1; whether one of them is the unit.
+// The quotients of the first k monomials by number k, behind those k + 1, up to the first that is the unit; whether one is.
 fn quotients(room: &mut [u16], n: usize, k: usize) -> bool
-    requires { ⌜ ((k + 1) * n + k * n ≤ length (now room)) × (n ≤ 65536) ⌝ }
+    requires { ⌜ (k + 1) * n + k * n ≤ length (now room) ⌝ }
     ensures { λ r. ⌜ Quotients n k (now (room .entry)) k r (now (room .exit)) ⌝ }
 {
     let by = k * n;
     let base = by + n;
-    let mut unit = false;
     let mut i: usize = 0;
     while i < k {
-        let to = base + i * n;
-        let te = to + n;
-        divide(room, i * n, by, to, n);
-        let d = degree(&room[to..te]);
-        unit = either(unit, d);
+        if divide(room, i * n, by, base + i * n, n) {
+            return true;
+        }
         i += 1;
     }
-    unit
+    false
+}
+
+// The degree of the quotient a : b.
+fn quotient_degree(a: &[u16], b: &[u16]) -> usize
+    requires { ⌜ (length (now a) ≡ length (now b)) × (length (now a) ≤ 65536) ⌝ }
+    ensures { λ r. ⌜ (r ≡ degreeOf (quotient (now (a .entry)) (now (b .entry)))) × (r ≤ 4294901760) ⌝ }
+{
+    let mut d: usize = 0;
+    let mut i: usize = 0;
+    while i < a.len() {
+        d += less(a[i], b[i]) as usize;
+        i += 1;
+    }
+    d
+}
+
+// t^shift times 1 - t^d times the seed, added to out or taken off it, cut at its length.
+fn add_factor(out: &mut [i64], shift: usize, d: usize, seed: &[i64], neg: bool)
+    requires { ⌜ (shift < 4611686018427387904) × (d ≤ 4294901760) ⌝ }
+    ensures { λ _. ⌜ AddedTo (shifted shift (factor (now (seed .entry)) d neg)) (now (out .entry)) (now (out .exit)) ⌝ }
+{
+    add_shifted(out, shift, seed, neg);
+    add_shifted(out, shift + d, seed, !neg);
+}
+
+// One monomial: 1 - t^deg(a).
+fn single(room: &[u16], n: usize, neg: bool, shift: usize, seed: &[i64], out: &mut [i64])
+    requires { ⌜ (n ≤ length (now room)) × (n ≤ 65536) × (shift < 2305843009213693952) ⌝ }
+    ensures { λ _. ⌜ AddedTo (shifted shift (λ k. by neg (seeded (coefficient (now (seed .entry))) [] (rows n 1 (now (room .entry))) k))) (now (out .entry)) (now (out .exit)) ⌝ }
+{
+    let a = degree(&room[0..n]);
+    add_factor(out, shift, a, seed, neg);
+}
+
+// Two monomials: 1 - t^deg(a) - t^deg(b) (1 - t^deg(a : b)).
+fn pair(room: &[u16], n: usize, neg: bool, shift: usize, seed: &[i64], out: &mut [i64])
+    requires { ⌜ (n + n ≤ length (now room)) × (n ≤ 65536) × (shift < 2305843009213693952) ⌝ }
+    ensures { λ _. ⌜ AddedTo (shifted shift (λ k. by neg (seeded (coefficient (now (seed .entry))) [] (rows n 2 (now (room .entry))) k))) (now (out .entry)) (now (out .exit)) ⌝ }
+{
+    let e = n + n;
+    let b = degree(&room[n..e]);
+    let d = quotient_degree(&room[0..n], &room[n..e]);
+    add_factor(out, shift + b, d, seed, !neg);
+    let a = degree(&room[0..n]);
+    add_factor(out, shift, a, seed, neg);
+}
+
+// At most two monomials.
+fn at_most_two(
+    room: &[u16],
+    n: usize,
+    m: usize,
+    neg: bool,
+    shift: usize,
+    seed: &[i64],
+    out: &mut [i64],
+)
+    requires { ⌜ (m * n ≤ length (now room)) × (m ≤ 2) × (n ≤ 65536) × (shift < 2305843009213693952) ⌝ }
+    ensures { λ _. ⌜ AddedTo (shifted shift (λ k. by neg (seeded (coefficient (now (seed .entry))) [] (rows n m (now (room .entry))) k))) (now (out .entry)) (now (out .exit)) ⌝ }
+{
+    if m == 0 {
+        add_shifted(out, shift, seed, neg);
+        return;
+    }
+    if m == 1 {
+        single(room, n, neg, shift, seed, out);
+        return;
+    }
+    pair(room, n, neg, shift, seed, out);
 }
 
 // t^shift times the seed times the numerator, added to out or taken off it, cut at its length; nothing where `unit` says that the
@@ -81,7 +152,7 @@ pub(crate) fn few(
         return;
     }
     let mut left = m;
-    while left > 0 {
+    while left > 2 {
         left -= 1;
         let a = left * n;
         let ae = a + n;
@@ -89,19 +160,5 @@ pub(crate) fn few(
         let u = quotients(room, n, left);
         few(&mut room[ae..], n, left, u, !neg, shift + d, seed, out);
     }
-    add_shifted(out, shift, seed, neg);
-}
-
-// How many monomials are few, for a seed of so many coefficients.
-pub(crate) fn few_limit(len: usize) -> usize {
-    if len <= 4 {
-        return 14;
-    }
-    if len <= 16 {
-        return 12;
-    }
-    if len <= 64 {
-        return 10;
-    }
-    8
+    at_most_two(room, n, left, neg, shift, seed, out);
 }

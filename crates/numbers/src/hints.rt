@@ -4,8 +4,10 @@ use crate::leaf::least;
 ghost use Prim.Native.Nat.{_*_, _≤_};
 ghost use lib.ListN.{length};
 
-// What the bits suggest: a part with no variable in common with the rest (0 for none), the most frequent variable, and the monomials that have it.
+// What the bits suggest: that the monomials are few, or a part with no variable in common with the rest (0 for none), the most frequent
+// variable, and the monomials that have it.
 pub(crate) struct Hint {
+    pub(crate) few: bool,
     pub(crate) part: u64,
     pub(crate) v: usize,
     pub(crate) having: u64,
@@ -128,17 +130,84 @@ fn part(s: &[u64]) -> u64 {
     0
 }
 
-// What one pass over m monomials suggests.
-pub(crate) fn look(room: &[u16], n: usize, m: usize) -> Hint
+// How many monomials are few, for a seed of so many coefficients.
+fn few_limit(len: usize) -> usize {
+    if len <= 4 {
+        return 6;
+    }
+    if len <= 16 { 5 } else { 4 }
+}
+
+// Whether m monomials are few because no variable is in three of them.
+fn thin(m: usize, len: usize, having: u64) -> bool {
+    if len > 4 {
+        return false;
+    }
+    if m > 14 {
+        return false;
+    }
+    u64::count_ones(having) <= 2
+}
+
+// What the bits of m monomials suggest; the words are 0 before.
+fn suggested(s: &mut [u64], room: &[u16], n: usize, m: usize, len: usize) -> Hint
+    requires { ⌜ m * n ≤ length (now room) ⌝ }
+{
+    marks(s, room, n, m);
+    let v = most(s);
+    let mut having: u64 = 0;
+    if v < s.len() {
+        having = s[v];
+    }
+    if thin(m, len, having) {
+        return Hint {
+            few: true,
+            part: 0,
+            v,
+            having,
+        };
+    }
+    let p = part(s);
+    Hint {
+        few: false,
+        part: p,
+        v,
+        having,
+    }
+}
+
+// The same for at most 32 variables, so that fewer words are cleared.
+fn look_narrow(room: &[u16], n: usize, m: usize, len: usize) -> Hint
+    requires { ⌜ m * n ≤ length (now room) ⌝ }
+{
+    let mut s = [0u64; 32];
+    let w = least(n, 32);
+    suggested(&mut s[..w], room, n, m, len)
+}
+
+// The same for more.
+fn look_wide(room: &[u16], n: usize, m: usize, len: usize) -> Hint
     requires { ⌜ m * n ≤ length (now room) ⌝ }
 {
     let mut s = [0u64; 256];
-    marks(&mut s, room, n, m);
-    let v = most(&s);
-    let mut having: u64 = 0;
-    if v < 256 {
-        having = s[v];
+    let w = least(n, 256);
+    suggested(&mut s[..w], room, n, m, len)
+}
+
+// What one pass over m monomials suggests, for a seed of so many coefficients.
+pub(crate) fn look(room: &[u16], n: usize, m: usize, len: usize) -> Hint
+    requires { ⌜ m * n ≤ length (now room) ⌝ }
+{
+    if m <= few_limit(len) {
+        return Hint {
+            few: true,
+            part: 0,
+            v: 0,
+            having: 0,
+        };
     }
-    let p = part(&s);
-    Hint { part: p, v, having }
+    if n <= 32 {
+        return look_narrow(room, n, m, len);
+    }
+    look_wide(room, n, m, len)
 }

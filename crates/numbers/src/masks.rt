@@ -1,6 +1,7 @@
 // The masks of a whole list, by which most divisions are ruled out without a look at the exponents: the first minimal list.
 use crate::asked::greater;
 use crate::minimal::divides;
+use crate::minimal::minimalize;
 use crate::rows::copy_cells;
 use monomials::divmask::MaskOutcome;
 use monomials::divmask::mask;
@@ -122,11 +123,14 @@ fn minimal_by(room: &mut [u16], n: usize, m: usize, masks: [[u64; 2]; 60]) -> us
     left
 }
 
-// The list without the monomials that another one divides; how many are left.
+// The list without the monomials that another one divides; how many are left. Where they are few, masks cost more than they save.
 pub(crate) fn starting_list(room: &mut [u16], n: usize, s: usize) -> usize
     requires { ⌜ (s * n ≤ length (now room)) × (s ≤ 60) × (n ≤ 255) ⌝ }
     ensures { λ r. ⌜ Thinned n s (now (room .entry)) r (now (room .exit)) ⌝ }
 {
+    if s < 16 {
+        return minimalize(room, n, s, 0xffff_ffff_ffff_ffff);
+    }
     let masks = masks_of(room, n, s);
     minimal_by(room, n, s, masks)
 }

@@ -19,7 +19,7 @@ use borrow.Fn.PlainCycle.{Measures, is, falls, and}
 use Rattle.numbers.proofs.few.few.Reads as few
 use Rattle.numbers.proofs.few.few.Kinds as few-kinds
 use Rattle.numbers.proofs.few.+few.Lts-few as few-lts
-use Rattle.numbers.proofs.leaf.add_shifted.Reads as add-shifted-reads
+use Rattle.numbers.proofs.few.at_most_two.Reads as at-most-two-reads
 use Rattle.numbers.proofs.leaf.degree.Reads as degree-reads
 use Rattle.numbers.proofs.few.quotients.Reads as quotients-reads
 use Rattle.numbers.proofs.few.+few.{statement}
@@ -48,8 +48,8 @@ pub +few-spec : {M : Type 1} → statement M
   quotients-reads.Learnt,
   few-below t,
   few.Post,
-  add-shifted-reads.Asked,
-  add-shifted-reads.Learnt,
+  at-most-two-reads.Asked,
+  at-most-two-reads.Learnt,
 )
     (few-at t)
     few.Post
@@ -90,7 +90,7 @@ pub +few-spec : {M : Type 1} → statement M
     -- few-quotients-requires
     (λ c κs.
     let p5 = c .before .before .before .before .before in let p9 = p5 .before .before .before .before in
-    (omega (arith, few-two (p9 .args .n) (p9 .args .m) (p5 .loop .left - 1) (length (p9 .args .room .now)) (omega arith) (p9 .pre .1 .0 .0), p5 .loop .inv .1), p9 .pre .1 .0 .1))
+    omega (arith, few-two (p9 .args .n) (p9 .args .m) (p5 .loop .left - 1) (length (p9 .args .room .now)) (omega arith) (p9 .pre .1 .0 .0), p5 .loop .inv .1))
     -- few-mul-few
     (λ c.
     let p8 = c .before .before .before .before .before .before .before .before in let p12 = p8 .before .before .before .before in
@@ -131,10 +131,11 @@ pub +few-spec : {M : Type 1} → statement M
           (omega (arith, few-two n (p18 .args .m) l (length (p18 .args .room .now)) (omega (arith, p14 .loop .inv .0)) (p18 .pre .1 .0 .0), p14 .loop .inv .1)) (p10 .degree .ensures .0 ∙ ap degree (part-is n (l * n) (p14 .loop .room))) (p8 .quotients .ensures) (p3 .few .kept .0))
           (p3 .few .ensures) (p14 .loop .inv .2),
     ))
-    (λ c κs. search needs)
+    -- few-at-most-two-requires
+    (λ c κs.
+    let p3 = c .before .before .before in let p7 = p3 .before .before .before .before in
+    (omega (arith, room-one (p7 .args .n) (p7 .args .m) (p3 .loop .left) (length (p7 .args .room .now)) (p3 .loop .inv .0) (p7 .pre .1 .0 .0), p3 .loop .inv .1), omega arith, p7 .pre .1 .0 .1, p7 .pre .1 .0 .2))
     (λ c. search needs)
     (λ c. search needs)
     -- few-returns-3
-    (λ c.
-    let p1 = c .before in let p4 = p1 .before .before .before in
-    let e : p4 .loop .left ≡ 0 = omega arith in running-leaf _ _ _ _ _ (p1 .add-shifted .ensures) (rw e at (p4 .loop .inv .2)))
+    (λ c. let p5 = c .before .before .before .before .before in running-leaf _ _ _ _ _ (c .before .at-most-two .ensures) (p5 .loop .inv .2))
