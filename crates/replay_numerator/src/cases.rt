@@ -11,59 +11,35 @@ use vectors::rooms::put_coefficients;
 
 // Whether the call does what the case says, whose arguments start at `at`.
 pub fn is_right(code: u64, text: &[u8], at: usize) -> bool {
+    if code != 21 && code != 22 {
+        return false;
+    }
     let mut coeffs = [0i64; 9002];
     let mut cells = [0u16; 15300];
+    let given = read(code, text, at, &mut coeffs, &mut cells);
     let mut room = [0u16; 1101600];
     let mut first = [0i64; 65540];
     let mut second = [0i64; 65540];
-    match code {
-        21 => is_numerator_right(
-            text,
-            at,
-            &coeffs,
-            &mut cells,
-            &mut room,
-            &mut first,
-            &mut second,
-        ),
-        22 => is_update_right(
-            text,
-            at,
-            &mut coeffs,
-            &mut cells,
-            &mut room,
-            &mut first,
-            &mut second,
-        ),
-        _ => false,
+    is_given(
+        code,
+        given,
+        &coeffs,
+        &cells,
+        &mut room,
+        &mut first,
+        &mut second,
+        text,
+    )
+}
+
+fn read(code: u64, text: &[u8], at: usize, coeffs: &mut [i64], cells: &mut [u16]) -> Given
+    ensures { λ r. ⌜ (r .coeffs ≤ length (now (coeffs .exit))) × (r .cells + r .added ≤ length (now (cells .exit))) ⌝ }
+{
+    if code == 21 {
+        read_list(text, at, cells)
+    } else {
+        read_lists(text, at, coeffs, cells)
     }
-}
-
-// The exponent room is handed on as an array, so that its length is known and not counted.
-fn is_numerator_right(
-    text: &[u8],
-    at: usize,
-    coeffs: &[i64],
-    cells: &mut [u16],
-    room: &mut [u16; 1101600],
-    first: &mut [i64],
-    second: &mut [i64],
-) -> bool {
-    let given = read_list(text, at, cells);
-    is_lent(21, given, coeffs, cells, room, first, second, text)
-}
-
-fn is_update_right(
-    text: &[u8],
-    at: usize,
-    coeffs: &mut [i64],
-    cells: &mut [u16],
-    room: &mut [u16; 1101600],
-    first: &mut [i64],
-    second: &mut [i64],
-) -> bool {
-    let given = read_lists(text, at, coeffs, cells);
-    is_lent(22, given, coeffs, cells, room, first, second, text)
 }
 
 // The arguments of a numerator: it has no coefficients, and no second list.
@@ -130,6 +106,22 @@ fn read_added(text: &[u8], given: Given, cells: &mut [u16]) -> Given
         added: at_most(list.count, cells.len() - m),
         next,
     }
+}
+
+// The exponent room comes as an array, so that its length is known and not counted.
+fn is_given(
+    code: u64,
+    given: Given,
+    coeffs: &[i64],
+    cells: &[u16],
+    room: &mut [u16; 1101600],
+    first: &mut [i64],
+    second: &mut [i64],
+    text: &[u8],
+) -> bool
+    requires { ⌜ (given .coeffs ≤ length (now coeffs)) × (given .cells + given .added ≤ length (now cells)) ⌝ }
+{
+    is_lent(code, given, coeffs, cells, room, first, second, text)
 }
 
 // The call with the rooms that the case lends.
