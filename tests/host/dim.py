@@ -2,6 +2,7 @@
 must write the 26 bytes of the answer record and nothing else."""
 import subprocess
 import sys
+import time
 
 LONGEST = 30607
 NO_RECORD = bytes([1, 0, 0, 0, 21, 12] + [0] * 20)
@@ -24,6 +25,17 @@ def run(program, data):
     return ran.stdout if ran.returncode == 0 and not ran.stderr else None
 
 
+def run_slowly(program, data):
+    """The input byte by byte, so that no read gets it whole."""
+    ran = subprocess.Popen([program], stdin=subprocess.PIPE, stdout=subprocess.PIPE, bufsize=0)
+    for byte in data:
+        ran.stdin.write(bytes([byte]))
+        time.sleep(0.001)
+    ran.stdin.close()
+    written = ran.stdout.read()
+    return written if ran.wait() == 0 else None
+
+
 def main(program, path):
     stored = list(cases(path))
     asked = list(stored)
@@ -32,6 +44,8 @@ def main(program, path):
     longest = max((record for record, _ in stored), key=len)
     asked += [(longest + bytes(k), NO_RECORD) for k in (1, 2, 10000, 1000000)]
     wrong = [len(data) for data, answer in asked if run(program, data) != answer]
+    wrong += [len(data) for data, answer in stored[:10] if run_slowly(program, data) != answer]
+    asked += stored[:10]
     for size in wrong:
         print(f"failed: dim on {size} bytes")
     print(f"dim: {len(asked) - len(wrong)} passed, {len(wrong)} failed; longest record {len(longest)} bytes")

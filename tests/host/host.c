@@ -44,13 +44,15 @@ static void tell(const char *what, const uint8_t *rec, size_t len, uint8_t numbe
     failed++;
 }
 
-/* One call: its number, the answer record, and past it and beside the output what stood there. */
+/* One call: its number, the answer record, past it and beside the output what stood there, and the record as it was. */
 static void ask_for(const char *what, const uint8_t *rec, size_t len, size_t out_len, struct told wanted) {
+    static uint8_t was[LONGEST + 1];
     uint8_t area[2 * BESIDE + LONGEST_OUTPUT], after[sizeof area];
+    if (len) memcpy(was, rec, len);
     for (size_t j = 0; j < sizeof area; j++) area[j] = after[j] = held(j + 5 - BESIDE % 5);
     if (wanted.status != 14) answer_bytes(wanted, after + BESIDE);
     uint8_t number = call(rec, len, area + BESIDE, out_len);
-    if (number == wanted.status && memcmp(area, after, sizeof area) == 0) {
+    if (number == wanted.status && memcmp(area, after, sizeof area) == 0 && (len == 0 || memcmp(was, rec, len) == 0)) {
         passed++;
     } else {
         tell(what, rec, len, number, wanted.status);

@@ -9,7 +9,7 @@ use records::ideal::MAX_RECORD;
 ghost use mathlib.Core.Path.{_≡_};
 ghost use Rattle.dim.specs.Dim.{dimBytes};
 
-// One byte more than the longest record has: a longer input is no record, and by `cut-input` of `records` neither is what is read of it.
+// One byte more than the longest record has: a longer input is no record, and neither is what is read of it (`whole-input`).
 const MAX_INPUT: usize = MAX_RECORD + 1;
 
 fn main() {

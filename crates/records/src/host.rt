@@ -79,6 +79,7 @@ fn dimension_of(rec: &[u8]) -> DimensionAnswer
     }
 }
 
+// The dimension of the m monomials in `cells`, in rooms of this call's own.
 fn in_own_rooms(n: usize, m: usize, cells: &[u16]) -> DimensionAnswer
     ensures { λ r. do ⌜ r ≡ dimensionAnswer (← ⟦MAX_WIDTH⟧ .entry) (← ⟦MAX_COUNT⟧ .entry) (← ⟦MAX_DEGREE⟧ .entry) n m (now (cells .entry)) ownCells ownCoefficients ownCoefficients ownWords ⌝ }
 {

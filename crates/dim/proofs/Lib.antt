@@ -1,0 +1,2 @@
+-- What is proved of the program `dim` beside its functions.
+pub mod WholeInput
