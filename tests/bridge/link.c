@@ -1,4 +1,4 @@
-/* Every call of the header, by its address, so that the archive must have it. */
+/* Every call of the header, by its address, so that the archives of `bridge` and `records` must have it. */
 #include "bridge.h"
 #include "check.h"
 
@@ -28,6 +28,7 @@ static void (*const calls[])(void) = {
     CALL(pt_check_place),
     CALL(pt_place),
     CALL(pt_copy_record),
+    CALL(purlthicket_dim),
 };
 
 int main(void) {

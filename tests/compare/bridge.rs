@@ -39,6 +39,7 @@ mod c {
         pub fn pt_check_place(rec: *const u8, rec_len: usize, k: u64) -> u8;
         pub fn pt_place(rec: *const u8, rec_len: usize, k: u64, out: *mut u8, out_len: usize, values: *mut u64) -> u8;
         pub fn pt_copy_record(rec: *const u8, rec_len: usize, cells: *mut u16, cells_len: usize, values: *mut u64) -> u8;
+        pub fn purlthicket_dim(rec: *const u8, rec_len: usize, out: *mut u8, out_len: usize) -> u8;
     }
 }
 
@@ -150,4 +151,9 @@ pub fn place(rec: &[u8], k: u64, out: &mut [u8], values: &mut Values) -> u8 {
 
 pub fn copy_record(rec: &[u8], cells: &mut [u16], values: &mut Values) -> u8 {
     unsafe { c::pt_copy_record(rec.as_ptr(), rec.len(), cells.as_mut_ptr(), cells.len(), values.as_mut_ptr()) }
+}
+
+/// The host call, of the crate `records`.
+pub fn host(rec: &[u8], out: &mut [u8]) -> u8 {
+    unsafe { c::purlthicket_dim(rec.as_ptr(), rec.len(), out.as_mut_ptr(), out.len()) }
 }

@@ -61,8 +61,8 @@ pub fn shape(list: &List) -> Shape {
     }
 }
 
-/// picus's answer and the noted build's, both as numbers.
-fn against(value: Option<u128>, list: &List) -> Column {
+/// The value against picus's dimension.
+pub fn against(value: Option<u128>, list: &List) -> Column {
     judge(
         &value,
         || quotient_dimension(&list.picus(), list.n),

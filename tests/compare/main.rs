@@ -5,6 +5,7 @@
 mod bridge;
 mod dimensions;
 mod families;
+mod hosts;
 mod limit;
 mod list;
 mod monomials;
@@ -82,9 +83,10 @@ impl Comparison {
             monomials::pair(tally, random, list.at(j), list.at(k));
         }
         let record = records::write(tally, random, list);
-        records::read(tally, random, &record);
-        let bytes = records::damaged(random, &record);
-        records::read(tally, random, &bytes);
+        for bytes in [record.clone(), records::damaged(random, &record)] {
+            records::read(tally, random, &bytes);
+            hosts::host(tally, random, &bytes);
+        }
         record
     }
 

@@ -69,7 +69,7 @@ pub fn same(tally: &mut Tally, list: &List, other: &List, record: &[u8]) {
 }
 
 /// What the bytes list, where writing it out gives the bytes again.
-fn parsed(bytes: &[u8]) -> Option<List> {
+pub fn parsed(bytes: &[u8]) -> Option<List> {
     let (&n, &m) = (bytes.get(5)?, bytes.get(6)?);
     let (n, m) = (n as usize, m as usize);
     if m > 60 || bytes.len() != 7 + 2 * m * n {
