@@ -23,7 +23,7 @@ use Rattle.laws.specs.Count.{bit}
 use Rattle.laws.proofs.Ideal.{within-append, multiple-append}
 use Rattle.laws.proofs.Numerator.{AllCoprime}
 use Rattle.laws.proofs.Rows.{at, rows, rows-within, at-length, at-cell}
-use Rattle.laws.proofs.Column.{above, above-one, coprime-cells, Counted}
+use Rattle.laws.proofs.Column.{above, above-one, coprime-cells}
 use Rattle.laws.proofs.Pass.{Thinned}
 use Rattle.laws.proofs.Added.{low, low-add, AddedTo, Zeros}
 use Rattle.laws.proofs.Seed.{seeded, seeded-low, seeded-same, seeded-apart, Apart}
@@ -41,12 +41,8 @@ pub record Sided (n b m : ℕ) (xs : List ℕ) (v : ℕ) : Type 0 where
 pub sided-none : (n b m : ℕ) (xs : List ℕ) → Sided n b m xs 0
 sided-none n b m xs = record { each = λ z h. absurd (omega arith) }
 
-pub sided-more : (n b m : ℕ) (xs : List ℕ) (v x y l k : ℕ) → Counted n v xs b x l → Counted n v xs m y k → (x ≡ 0) ⊎ (y ≤ x) → Sided n b m xs v → Sided n b m xs (v + 1)
-sided-more n b m xs v x y l k c d e s = record { each = below-more _ _ (s .each) (go e) }
-  where
-    go : (x ≡ 0) ⊎ (y ≤ x) → (above n v 1 xs b ≡ 0) ⊎ (above n v 1 xs m ≤ above n v 1 xs b)
-    go (inl h) = inl (sym (c .count-is) ∙ h)
-    go (inr h) = inr (omega (arith, c .count-is, d .count-is))
+pub sided-more : (n b m : ℕ) (xs : List ℕ) (v : ℕ) → (above n v 1 xs b ≡ 0) ⊎ (above n v 1 xs m ≤ above n v 1 xs b) → Sided n b m xs v → Sided n b m xs (v + 1)
+sided-more n b m xs v e s = record { each = below-more _ _ (s .each) e }
 
 above-le : (n v e : ℕ) (xs : List ℕ) (b m : ℕ) → b ≤ m → above n v e xs b ≤ above n v e xs m
 above-le n v e xs b zero h = let f : b ≡ 0 = omega arith in rw f (omega arith)

@@ -121,8 +121,11 @@ fn part(s: &[u64]) -> u64 {
     let mut i: usize = 0;
     while i < 64 {
         let b = grown(s, a);
+        if b == all {
+            return 0;
+        }
         if b == a {
-            return if a == all { 0 } else { a };
+            return a;
         }
         a = b;
         i += 1;

@@ -1,11 +1,11 @@
 // A list in two parts with no variable in common.
-use crate::pivot::column;
 use crate::rows::exchange;
 ghost use mathlib.Core.Bool.{true, false};
 ghost use mathlib.Core.Logic.{_⊎_};
 ghost use mathlib.Core.Path.{_≡_};
-ghost use Prim.Native.Nat.{_-_, _*_, _≤_};
+ghost use Prim.Native.Nat.{_-_, _*_, _<_, _≤_};
 ghost use lib.ListN.{length, drop};
+ghost use Rattle.laws.proofs.Column.{above};
 ghost use Rattle.laws.proofs.Parts.{Regrouped};
 ghost use Rattle.laws.proofs.Pass.{Thinned};
 ghost use Rattle.laws.proofs.Rows.{rows};
@@ -30,14 +30,30 @@ fn gather(room: &mut [u16], n: usize, m: usize, part: u64) -> usize
     k
 }
 
-// Whether x of y monomials are some and not all.
-fn both(x: usize, y: usize) -> bool
-    ensures { λ r. ⌜ (r ≡ false → (x ≡ 0) ⊎ (y ≤ x)) ⌝ }
+// Whether one of the monomials from number i up to m has variable v.
+fn has(room: &[u16], n: usize, i: usize, m: usize, v: usize) -> bool
+    requires { ⌜ (m * n ≤ length (now room)) × (v < n) × (i ≤ m) ⌝ }
+    ensures { λ r. ⌜ (r ≡ false → above n v 1 (now (room .entry)) m ≡ above n v 1 (now (room .entry)) i) ⌝ }
 {
-    if x == 0 {
-        return false;
+    let mut j: usize = i;
+    while j < m {
+        if room[j * n + v] > 0 {
+            return true;
+        }
+        j += 1;
     }
-    x < y
+    false
+}
+
+// Whether variable v is in one of the first b monomials and in one of the others.
+fn both(room: &[u16], n: usize, b: usize, m: usize, v: usize) -> bool
+    requires { ⌜ (m * n ≤ length (now room)) × (v < n) × (b ≤ m) ⌝ }
+    ensures { λ r. ⌜ (r ≡ false → (above n v 1 (now (room .entry)) b ≡ 0) ⊎ (above n v 1 (now (room .entry)) m ≤ above n v 1 (now (room .entry)) b)) ⌝ }
+{
+    if has(room, n, 0, b, v) {
+        return has(room, n, b, m, v);
+    }
+    false
 }
 
 // Whether the first b monomials have no variable in common with the others.
@@ -47,11 +63,7 @@ fn apart(room: &[u16], n: usize, b: usize, m: usize) -> bool
 {
     let mut v: usize = 0;
     while v < n {
-        let c = column(room, n, b, v);
-        let d = column(room, n, m, v);
-        let x = c.count;
-        let y = d.count;
-        if both(x, y) {
+        if both(room, n, b, m, v) {
             return false;
         }
         v += 1;

@@ -2,10 +2,8 @@ use Prim.Native.Nat.{_-_, _≤_}
 use borrow.Author.Needs.{needs}
 use mathlib.Core.Bool.{false≢true}
 use mathlib.Core.Path.{_≡_}
-use native.Mathlib.Nat.{mul-le-mul-right}
 use native.Mathlib.Omega.{arith}
 use Rattle.laws.proofs.Parts.{Sided, sided-end, sided-more, sided-none}
-use Rattle.laws.specs.Room.{column}
 use Rattle.numbers.proofs.parts.apart.Statement.{statement}
 use Rattle.numbers.proofs.parts.apart.Tie as tie
 
@@ -23,15 +21,12 @@ apart-spec =
     μ-loop
     -- loop-holds
     (λ c. (omega arith, sided-none _ _ _ _))
-    -- column-requires
-    (λ c κs. let p3 = c .before .before .before in (omega (arith, mul-le-mul-right (p3 .args .n) (p3 .pre .1), p3 .pre .0), omega arith))
-    (λ c κs. search needs)
     (λ c κs. search needs)
     -- returns
     (λ c. λ h. absurd (false≢true h))
     (λ c. search needs)
     (λ c. search needs)
     -- loop-again
-    (λ c. let p1 = c .before in let p2 = p1 .before in let p3 = p2 .before in let p5 = p3 .before .before in (omega arith, sided-more _ _ _ _ _ _ _ _ _ (p3 .column .ensures) (p2 .column2 .ensures) (p1 .both .ensures (c .if1 .left)) (p5 .loop .inv .1)))
+    (λ c. let p1 = c .before in let p3 = p1 .before .before in (omega arith, sided-more _ _ _ _ _ (p1 .both .ensures (c .if1 .left)) (p3 .loop .inv .1)))
     -- returns-2
     (λ c. let p1 = c .before in let p3 = p1 .before .before in let e : p1 .loop .v ≡ p3 .args .n = omega arith in λ h. sided-end (p3 .args .n) (p3 .args .b) (p3 .args .m) (p3 .args .room .now) (p3 .pre .0) (p3 .pre .1) (rw e at (p1 .loop .inv .1))))
