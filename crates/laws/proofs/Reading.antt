@@ -31,12 +31,12 @@ use Rattle.laws.specs.Monomial.{exponent}
 use Rattle.laws.specs.Ideal.{listed, Width}
 use Rattle.laws.specs.Count.{equal}
 use Rattle.laws.specs.Minimal.{minimal}
-use Rattle.laws.specs.Record.{bigEndian, framed, monomialBytes, exponentBytes, header, written, idealRecord, cellsIn, widthIn, countIn, exponentsIn, listIn, isRecord}
+use Rattle.laws.specs.Record.{bigEndian, value, framed, monomialBytes, exponentBytes, header, written, idealRecord, cellsIn, widthIn, countIn, exponentsIn, listIn, isRecord}
 use Rattle.laws.proofs.Monomial.{and-left, and-right, cons-eq}
 use Rattle.laws.proofs.Ideal.{listed-width, listed-count}
 use Rattle.laws.proofs.Enumeration.{equal-refl, equal-eq}
 use Rattle.laws.proofs.Minimal.{minimal-width, minimal-test, Chain, Undivided}
-use Rattle.laws.proofs.Record.{first-byte, other-bytes, value, value-bigEndian, bigEndian-value, exponentBytes-length, record-length, Small, minimal-small, record-read}
+use Rattle.laws.proofs.Record.{first-byte, other-bytes, value-bigEndian, bigEndian-value, exponentBytes-length, record-length, Small, minimal-small, record-read}
 
 -- bytes
 

@@ -31,7 +31,7 @@ use borrow.Author.Tests.{ltb-true, lt-ltb}
 use Rattle.laws.specs.Monomial.{exponent}
 use Rattle.laws.specs.Ideal.{In, Width, Same}
 use Rattle.laws.specs.Minimal.{minimal}
-use Rattle.laws.specs.Record.{bigEndian, framed, monomialBytes, exponentBytes, header, written, idealRecord}
+use Rattle.laws.specs.Record.{bigEndian, value, framed, monomialBytes, exponentBytes, header, written, idealRecord}
 use Rattle.laws.proofs.Monomial.{and-left, and-right, cons-eq}
 use Rattle.laws.proofs.Minimal.{minimal-members, minimal-width, minimal-same-iff, minimal-again, Chain, Undivided, minimal-test}
 
@@ -72,11 +72,6 @@ bigEndian-length (suc k) x = ap suc (bigEndian-length k x)
 pub bigEndian-bytes : (k x : ℕ) → areBytes (bigEndian k x) ≡ true
 bigEndian-bytes zero x = refl
 bigEndian-bytes (suc k) x = ap₂ _&&_ (lt-ltb (x / 256 ^ k % 256) 256 (mod-lt (x / 256 ^ k) (omega arith))) (bigEndian-bytes k x)
-
--- the number that bytes stand for, the greatest first
-abbrev pub value : List ℕ → ℕ
-value [] = 0
-value (b ∷ bs) = b * 256 ^ length bs + value bs
 
 -- written, then read
 pub value-bigEndian : (k x : ℕ) → value (bigEndian k x) ≡ x % 256 ^ k

@@ -18,6 +18,7 @@ use lib.ListN.{getD}
 use Rattle.laws.specs.Monomial.{exponent, power}
 use Rattle.laws.specs.Count.{bit}
 
+-- for n = 0 it is 1, since 128 / 0 is 0, and no variable is used
 abbrev pub bitsEach : ℕ → ℕ
 bitsEach n = max (128 / n) 1
 

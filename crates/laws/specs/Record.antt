@@ -1,5 +1,6 @@
 -- The bytes of the two records. The ideal record is defined for a list of any length.
 --   bigEndian k x   == the low k bytes of x, the greatest first
+--   value bytes     == the number that bytes give, the greatest first
 --   framed v body   == version v, the length of the body in four bytes, the body
 --   exponentBytes L == all exponents of L, one monomial after another, two bytes each
 --   header n m      == what stands before the exponents in version 1: the width and the count, a byte each
@@ -25,6 +26,10 @@ use Rattle.laws.specs.Minimal.{minimal}
 abbrev pub bigEndian : ℕ → ℕ → List ℕ
 bigEndian zero x = []
 bigEndian (suc k) x = (x / 256 ^ k % 256) ∷ bigEndian k x
+
+abbrev pub value : List ℕ → ℕ
+value [] = 0
+value (b ∷ bs) = b * 256 ^ length bs + value bs
 
 abbrev pub framed : ℕ → List ℕ → List ℕ
 framed v body = v ∷ bigEndian 4 (length body) ++ body
@@ -98,6 +103,13 @@ test-order = refl
 -- two monomials of width 2 with three exponents
 test-ragged : isRecord 60 (1 ∷ 0 ∷ 0 ∷ 0 ∷ 8 ∷ 2 ∷ 2 ∷ 0 ∷ 2 ∷ 0 ∷ 0 ∷ 0 ∷ 1 ∷ []) ≡ false
 test-ragged = refl
+
+-- the same with exponents 0, 2, 1: writing these out would give the bytes again, so the exponents are counted as well
+test-short : isRecord 60 (1 ∷ 0 ∷ 0 ∷ 0 ∷ 8 ∷ 2 ∷ 2 ∷ 0 ∷ 0 ∷ 0 ∷ 2 ∷ 0 ∷ 1 ∷ []) ≡ false
+test-short = refl
+
+test-short-written : idealRecord 2 (listed 2 2 (0 ∷ 2 ∷ 1 ∷ [])) ≡ 1 ∷ 0 ∷ 0 ∷ 0 ∷ 8 ∷ 2 ∷ 2 ∷ 0 ∷ 0 ∷ 0 ∷ 2 ∷ 0 ∷ 1 ∷ []
+test-short-written = refl
 
 test-part : partOf (1 ∷ 0 ∷ 0 ∷ 0 ∷ 14 ∷ 2 ∷ 3 ∷ 0 ∷ 2 ∷ 0 ∷ 0 ∷ 0 ∷ 1 ∷ 0 ∷ 1 ∷ 0 ∷ 0 ∷ 0 ∷ 2 ∷ []) 1 ≡ 0 ∷ 1 ∷ 0 ∷ 1 ∷ []
 test-part = refl

@@ -1,6 +1,7 @@
 -- The dimension of a list: the checks in their order, the answer, and what each room then holds. W is the greatest width, C the greatest
 -- count, M the greatest degree bound.
---   dimensionIs r n L       == the refusal, or else the dimension of L and its top degree
+--   dimensionIs r n L       == the refusal, or else the dimension of L, which fits two words where 11 does not refuse (`dimension-counts` of
+--                              promises), and its top degree
 --   atOnce n L              == no room is asked: L has a unit, or there are no variables
 --   noDimension M n L       == check 13: some variable has no pure power, or D is above M
 --   boundChecks M n L       == 13, and 11: the product of all a_v reaches 2^127

@@ -1,6 +1,7 @@
 -- The Hilbert function at a degree: the checks in their order, the answer, and what the room then holds. W is the greatest width, D the
 -- greatest degree.
---   signedAnswer r z   == the refusal, or else the integer z as a signed two-word number
+--   signedAnswer r z   == the refusal, or else the integer z as a signed two-word number, which holds it whole where 11 does not refuse
+--                         (`hf-at-value` of promises)
 --   roomChecks         == the checks that come before any work: 1, 10, 9
 --   valueCheck         == check 11: the sum of the magnitudes reaches 2^127
 --   hilbertChecks      == the order of checks: 1, 10, 9, 11

@@ -11,12 +11,12 @@ ghost use mathlib.Core.List.{_++_};
 ghost use Prim.Native.Nat.{ℕ, suc, _+_, _*_, _^_, _<_, _≤_};
 ghost use lib.ListN.{length, replicate, drop, set};
 ghost use Rattle.laws.specs.Coefficients.{coefficient};
-ghost use Rattle.laws.specs.Sums.{sumBelow, sums};
+ghost use Rattle.laws.specs.Sums.{sumBelow, sums as prefixSums};
 ghost use Rattle.numbers.specs.Wide.{value, wide};
 ghost use Rattle.numbers.specs.Hilbert.{hilbertAnswer, hilbertRoom};
 ghost use Rattle.numbers.specs.HilbertParts.{numberAt, capped, partOf, differenceAnswer};
 
-// The greatest degree at which the Hilbert function is asked for.
+// The greatest degree at which the Hilbert function is asked for, and the greatest degree bound D of a dimension.
 pub const MAX_DEGREE: usize = 65536;
 
 // A signed two-word number, or why there is none.
@@ -80,7 +80,7 @@ fn difference(plus: Wide, minus: Wide) -> SignedAnswer
 // The n-fold prefix sum at d of one part of the coefficients, held down to 2^127.
 fn sum_part(part: Part, n: usize, coeffs: &[i64], d: usize, words: &mut [u64]) -> Wide
     requires { ⌜ length (now words) ≡ 2 * (d + 1) ⌝ }
-    ensures { λ r. ⌜ capped (value r) ≡ capped (sums n (λ k. partOf part (coefficient (now (coeffs .entry)) k)) d) ⌝ }
+    ensures { λ r. ⌜ capped (value r) ≡ capped (prefixSums n (λ k. partOf part (coefficient (now (coeffs .entry)) k)) d) ⌝ }
     ensures { λ _. ⌜ partOf part (coefficient (now (coeffs .entry)) d) < 2 ^ 64 ⌝ }
 {
     fill(part, coeffs, d + 1, words);
@@ -105,7 +105,7 @@ fn fill(part: Part, coeffs: &[i64], count: usize, words: &mut [u64])
 // n stages, one after the other.
 fn stages(n: usize, count: usize, words: &mut [u64])
     requires { ⌜ length (now words) ≡ 2 * count ⌝ }
-    ensures { λ _. ⌜ ((k : ℕ) → k < count → capped (numberAt (now (words .exit)) k) ≡ capped (sums n (numberAt (now (words .entry))) k)) ⌝ }
+    ensures { λ _. ⌜ ((k : ℕ) → k < count → capped (numberAt (now (words .exit)) k) ≡ capped (prefixSums n (numberAt (now (words .entry))) k)) ⌝ }
 {
     let mut done: usize = 0;
     while done < n {

@@ -20,10 +20,9 @@ use lib.Pow.{areBytes}
 use borrow.Author.Tests.{eqb-true, eq-eqb, ne-eqb, leb-true, le-leb, not-true as not-passed}
 use Rattle.laws.specs.Ideal.{listed, multiple}
 use Rattle.laws.specs.Order.{degrevlex}
-use Rattle.laws.specs.Record.{isRecord, exponentsIn, listIn, widthIn, countIn}
+use Rattle.laws.specs.Record.{value, isRecord, exponentsIn, listIn, widthIn, countIn}
 use Rattle.laws.proofs.Monomial.{and-left, and-right, bool-ext}
 use Rattle.laws.proofs.Minimal.{Chain, Undivided}
-use Rattle.laws.proofs.Record.{value}
 use Rattle.laws.proofs.Reading.{cellsIn-length, record-tests}
 use Rattle.records.specs.Rows.{row, isGreater, above, stands, headerStands}
 use Rattle.records.proofs.Cells.{listed-next}

@@ -16,9 +16,10 @@ use lib.Dec.{ltb, leb, eqb}
 use lib.ListN.{length, drop, replicate}
 use Rattle.laws.specs.Ideal.{listed}
 use Rattle.laws.specs.Record.{idealRecord, isRecord, widthIn, countIn, exponentsIn, partOf}
-use Rattle.monomials.specs.Refusal.{Check, refusal, after, tooWide}
+use Rattle.monomials.specs.Refusal.{Check, refusal, after}
 use Rattle.monomials.specs.declared.refusal.Refusal.{Refusal}
 use Rattle.monomials.specs.declared.refusal.Refusal.the-variants.{Width, Count, Cells, Place, Record, Output}
+use Rattle.numbers.specs.Numerator.{listChecks}
 use Rattle.records.specs.declared.ideal.SizeOutcome.{SizeOutcome}
 use Rattle.records.specs.declared.ideal.SizeAnswer.{SizeAnswer}
 use Rattle.records.specs.declared.ideal.CheckOutcome.{CheckOutcome}
@@ -47,12 +48,7 @@ abbrev pub recordOf : ℕ → ℕ → List ℕ → List ℕ
 recordOf n s cells = idealRecord n (listed n s cells)
 
 abbrev pub writeChecks : ℕ → ℕ → ℕ → ℕ → List ℕ → List ℕ → List Check
-writeChecks W C n s cells out =
-    tooWide W n
-    ∷ (ltb C s, Count)
-    ∷ (not (eqb (length cells) (s * n)), Cells)
-    ∷ (ltb (length out) (length (recordOf n s cells)), Output)
-    ∷ []
+writeChecks W C n s cells out = listChecks W C n s cells ++ (ltb (length out) (length (recordOf n s cells)), Output) ∷ []
 
 abbrev pub writeAnswer : ℕ → ℕ → ℕ → ℕ → List ℕ → List ℕ → SizeAnswer
 writeAnswer W C n s cells out = sizeAnswer (refusal (writeChecks W C n s cells out)) (length (recordOf n s cells))

@@ -17,8 +17,7 @@ use lib.Dec.{leb, eqb}
 use lib.ListN.{length, getD, take, drop}
 use Rattle.laws.specs.Ideal.{multiple}
 use Rattle.laws.specs.Order.{degrevlex}
-use Rattle.laws.specs.Record.{widthIn, countIn}
-use Rattle.laws.proofs.Record.{value}
+use Rattle.laws.specs.Record.{value, widthIn, countIn}
 use Rattle.monomials.specs.declared.monomial.Order.{Order}
 use Rattle.monomials.specs.declared.monomial.Order.the-variants.{Less, Equal, Greater}
 

@@ -4,8 +4,7 @@ ghost use mathlib.Core.List.{_++_};
 ghost use Prim.Native.Nat.{_+_, _*_, _≤_, _<_};
 ghost use lib.ListN.{length, getD, take, drop};
 ghost use lib.Seq.{sets};
-ghost use Rattle.laws.specs.Record.{bigEndian, monomialBytes, exponentsIn};
-ghost use Rattle.laws.proofs.Record.{value};
+ghost use Rattle.laws.specs.Record.{bigEndian, value, monomialBytes, exponentsIn};
 
 // Writes the low k bytes of x from place `at` on.
 pub(crate) fn put_number(out: &mut [u8], at: usize, k: usize, x: u64)
