@@ -2,20 +2,21 @@
 use mathlib.Core.Path.{_≡_, refl, sym, ap, _∙_}
 use mathlib.Core.Logic.{_≢_}
 use mathlib.Core.Bool.{Bool, true, false}
-use mathlib.Core.List.{List}
-use Prim.Native.Nat.{ℕ, suc, _+_, _*_, _-_, _^_, _<_, _≤_}
-use native.Mathlib.Nat.{le-trans, mul-comm, suc-mul, mul-le-mul, mul-le-mul-right}
+use mathlib.Core.List.{List, _∷_}
+use Prim.Native.Nat.{ℕ, _+_, _*_, _-_, _^_, _<_, _≤_}
+use native.Mathlib.Nat.{le-of-eq, le-trans, mul-comm}
 use native.Mathlib.Numerals.{add-one}
 use native.Mathlib.Omega.{arith}
 use lib.Dec.{ltb, lit≤}
-use lib.ListN.{length, getD, take, drop, length-take, length-drop}
+use lib.ListN.{length, getD}
 use borrow.Author.Tests.{lt-ltb, le-ltb, ltb-true, ltb-false, eq-eqb, ne-eqb}
 use Rattle.laws.specs.Monomial.{degree}
 use Rattle.laws.specs.Ideal.{listed, unitIn}
 use Rattle.laws.specs.Sums.{sumBelow, productBelow}
 use Rattle.laws.specs.Dimension.{purePower, lesser, leastPower, finite, degreeBound}
 use Rattle.laws.proofs.Monomial.{not-true}
-use Rattle.laws.proofs.Ideal.{listedFrom, listed-next, listed-none}
+use Rattle.laws.proofs.Ideal.{listedFrom, listed-all, listed-next, listed-none}
+use Rattle.laws.proofs.Rows.{at, at-length, part-is}
 use Rattle.laws.proofs.Sums.{productBelow-le}
 use Rattle.laws.proofs.Asked.{sumBelow-ext}
 use Rattle.laws.proofs.Dimension.{finite-power, power-finite}
@@ -25,6 +26,7 @@ use Rattle.numbers.specs.declared.wide.Wide.{Wide}
 use Rattle.numbers.specs.declared.wide.Product.{Product}
 use Rattle.numbers.specs.declared.wide.Product.the-variants.{Exact, Passed}
 use Rattle.numbers.specs.declared.powers.Bound.the-variants.{At, None}
+use Rattle.numbers.proofs.Steps.{row-in}
 use Rattle.numbers.proofs.TwoWords.{value-exact, passes}
 
 module _ (M n : ℕ) (powers : List ℕ) where
@@ -80,34 +82,39 @@ module _ (f : ℕ → ℕ) (v : ℕ) (t : Wide) (x : ℕ) (p : Product) (h : t �
   product-over n l some g =
       passes (productBelow n f) (le-trans (product-passed (productBelow (v + 1) f) (sym next ∙ g)) (productBelow-le n (v + 1) f some (rw (add-one v) l)))
 
--- the listed monomials in their cells, one after the other
-module _ (n s : ℕ) (cells : List ℕ) (c : Cells n s cells) where
-  -- the cells of number i are there, and their place is no large number
-  pub row-there : (i : ℕ) → i < s → (i * n + n ≤ length cells) × (i * n + n ≤ 4096 * 4096)
-  row-there i h =
-      let a : suc i * n ≤ s * n = mul-le-mul-right n h in
-      let b : s * n ≤ 60 * 255 = mul-le-mul (c .count) (c .width) in
-      (omega (arith, suc-mul i n, c .there), omega (arith, suc-mul i n))
+-- the listed monomials in their cells, one after the other: a is number i
+module _ (n s : ℕ) (cells : List ℕ) (c : Cells n s cells) (i : ℕ) where
+  pub row-there : i < s → i * n + n ≤ length cells
+  row-there h = row-in n s i (length cells) h (le-of-eq (sym (c .there)))
 
-  -- a monomial has n cells
-  pub row-length : (i : ℕ) → i < s → length (take (i * n + n - i * n) (drop (i * n) cells)) ≡ n
-  row-length i h = simp (length-take, length-drop) (omega (arith, row-there i h .0))
+  module _ (a : List ℕ) (h : i < s) (e : a ≡ at n i cells) where
+    pub row-length : length a ≡ n
+    row-length = ap length e ∙ at-length n s i cells h (le-of-eq (sym (c .there)))
 
-  pub unit-found : (i : ℕ) → i < s → degree (take (i * n + n - i * n) (drop (i * n) cells)) ≡ 0 → unitIn (listed n s cells) ≡ unitIn (listedFrom n s i cells) → true ≡ unitIn (listed n s cells)
-  unit-found i h d e = sym (e ∙ ap unitIn (listed-next n s i cells h) ∙ rw (eq-eqb (degree (take (i * n + n - i * n) (drop (i * n) cells))) 0 d))
+    pub row-small : length a ≤ 65536
+    row-small = omega (arith, row-length, c .width)
 
-  pub unit-next : (i : ℕ) → i < s → degree (take (i * n + n - i * n) (drop (i * n) cells)) ≢ 0 → unitIn (listed n s cells) ≡ unitIn (listedFrom n s i cells) → unitIn (listed n s cells) ≡ unitIn (listedFrom n s (i + 1) cells)
-  unit-next i h d e = e ∙ ap unitIn (listed-next n s i cells h) ∙ rw (ne-eqb (degree (take (i * n + n - i * n) (drop (i * n) cells))) 0 d)
+    split : listedFrom n s i cells ≡ a ∷ listedFrom n s (i + 1) cells
+    split = listed-next n s i cells h ∙ ap (λ (y : List ℕ). y ∷ listedFrom n s (i + 1) cells) (part-is n (i * n) cells ∙ sym e)
 
-  pub unit-none : (i : ℕ) → s ≤ i → unitIn (listed n s cells) ≡ unitIn (listedFrom n s i cells) → false ≡ unitIn (listed n s cells)
-  unit-none i h e = sym (e ∙ ap unitIn (listed-none n s i cells h))
+    module _ (d : ℕ) (g : d ≡ degree a) (u : unitIn (listed n s cells) ≡ unitIn (listedFrom n s i cells)) where
+      pub unit-found : d ≡ 0 → true ≡ unitIn (listed n s cells)
+      unit-found z = sym (u ∙ ap unitIn split ∙ rw (eq-eqb (degree a) 0 (sym g ∙ z)))
 
-  pub powers-none : (i v x : ℕ) → s ≤ i → x ≡ 0 → x ≡ leastPower (listedFrom n s i cells) v
-  powers-none i v x h e = e ∙ sym (ap (λ (L : List (List ℕ)). leastPower L v) (listed-none n s i cells h))
+      pub unit-next : d ≢ 0 → unitIn (listed n s cells) ≡ unitIn (listedFrom n s (i + 1) cells)
+      unit-next z = u ∙ ap unitIn split ∙ rw (ne-eqb (degree a) 0 (λ w. z (g ∙ w)))
 
-  pub powers-next : (i j v x y : ℕ) → i < s → j ≡ i + 1 → x ≡ leastPower (listedFrom n s j cells) v → y ≡ lesser (purePower (take (i * n + n - i * n) (drop (i * n) cells)) v) x → y ≡ leastPower (listedFrom n s i cells) v
-  powers-next i j v x y h k e g =
-      g ∙ rw (e, k) (sym (ap (λ (L : List (List ℕ)). leastPower L v) (listed-next n s i cells h)))
+    pub powers-next : (j v x y : ℕ) → j ≡ i + 1 → x ≡ leastPower (listedFrom n s j cells) v → y ≡ lesser (purePower a v) x → y ≡ leastPower (listedFrom n s i cells) v
+    powers-next j v x y k q f = f ∙ rw (q, k) (sym (ap (λ (L : List (List ℕ)). leastPower L v) split))
+
+  pub unit-none : s ≤ i → unitIn (listed n s cells) ≡ unitIn (listedFrom n s i cells) → false ≡ unitIn (listed n s cells)
+  unit-none h e = sym (e ∙ ap unitIn (listed-none n s i cells h))
+
+  pub powers-none : (v x : ℕ) → s ≤ i → x ≡ 0 → x ≡ leastPower (listedFrom n s i cells) v
+  powers-none v x h e = e ∙ sym (ap (λ (L : List (List ℕ)). leastPower L v) (listed-none n s i cells h))
+
+  pub powers-all : (v x : ℕ) → i ≡ 0 → x ≡ leastPower (listedFrom n s i cells) v → x ≡ leastPower (listed n s cells) v
+  powers-all v x z e = e ∙ ap (λ (L : List (List ℕ)). leastPower L v) (ap (λ (k : ℕ). listedFrom n s k cells) z ∙ listed-all n s cells)
 
 -- all are multiplied
 pub product-all : (f : ℕ → ℕ) (n : ℕ) (t : Wide) → t ≡ wide (productBelow n f) → productBelow n f < 2 ^ 127 → Exact t ≡ productAnswer (productBelow n f)

@@ -1,5 +1,7 @@
 -- Facts that belong to no one function.
 mod Bits
+mod Steps
+mod ToLaws
 mod TwoWords
 mod Capped
 mod Numbers

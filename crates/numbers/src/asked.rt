@@ -1,5 +1,6 @@
 // The sizes asked of the rooms, from the lists as given: s monomials in the cells xs and, behind them, t in ys. All listed count, repeated and
 // divided ones too.
+use crate::rows::exponent;
 ghost use mathlib.Core.Bool.{Bool, _||_, cond};
 ghost use mathlib.Core.Path.{_≡_};
 ghost use Prim.Native.Nat.{suc, _+_, _<_, _≤_, max};
@@ -14,10 +15,9 @@ fn exponent_at(n: usize, s: usize, xs: &[u16], t: usize, ys: &[u16], v: usize, i
     ensures { λ r. ⌜ r ≡ getD (column (both n s (now (xs .entry)) t (now (ys .entry))) v) i 0 ⌝ }
 {
     if i < s {
-        return xs[i * n + v];
+        return exponent(xs, n, i, v);
     }
-    let k = i - s;
-    ys[k * n + v]
+    exponent(ys, n, i - s, v)
 }
 
 // Whether a monomial from number i on has variable v exactly x times.

@@ -1,4 +1,5 @@
 // A leaf: the numerator of a pairwise coprime list, as a product, added to the output at its shift. Sums are modulo 2^64.
+use crate::rows::row;
 use crate::signed;
 ghost use mathlib.Core.Bool.{Bool};
 ghost use mathlib.Core.List.{[]};
@@ -81,9 +82,7 @@ fn product(room: &[u16], n: usize, m: usize, seed: &[i64], scratch: &mut [i64])
     add_shifted(scratch, 0, seed, false);
     let mut i: usize = 0;
     while i < m {
-        let a = i * n;
-        let ae = a + n;
-        let d = degree(&room[a..ae]);
+        let d = degree(row(room, n, i));
         times(scratch, d);
         i += 1;
     }
@@ -104,9 +103,7 @@ fn span(room: &[u16], n: usize, m: usize, seed: &[i64], cap: usize) -> usize
     let mut w: usize = least(seed.len(), cap);
     let mut i: usize = 0;
     while i < m {
-        let a = i * n;
-        let ae = a + n;
-        let d = degree(&room[a..ae]);
+        let d = degree(row(room, n, i));
         w = least(w + d, cap);
         i += 1;
     }

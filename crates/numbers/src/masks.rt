@@ -3,6 +3,7 @@ use crate::asked::greater;
 use crate::minimal::divides;
 use crate::minimal::minimalize;
 use crate::rows::copy_cells;
+use crate::rows::row;
 use monomials::divmask::MaskOutcome;
 use monomials::divmask::mask;
 ghost use mathlib.Core.Bool.{true};
@@ -55,9 +56,7 @@ fn masks_of(room: &[u16], n: usize, s: usize) -> [[u64; 2]; 60]
     let mut m = [[0u64; 2]; 60];
     let mut i: usize = 0;
     while i < s {
-        let a = i * n;
-        let ae = a + n;
-        let p = two_words(n, most, &room[a..ae]);
+        let p = two_words(n, most, row(room, n, i));
         m[i] = p;
         i += 1;
     }
@@ -83,15 +82,11 @@ fn divisor(room: &[u16], n: usize, m: usize, i: usize, masks: &[[u64; 2]; 60]) -
     requires { ⌜ (m * n ≤ length (now room)) × (i < m) ⌝ }
     ensures { λ r. ⌜ (r < m → (r ≢ i) × (dividesCells (at n r (now (room .entry))) (at n i (now (room .entry))) ≡ true)) ⌝ }
 {
-    let b = i * n;
-    let be = b + n;
     let mut k: usize = 0;
     while k < m {
         if k != i {
             if allowed(masks, k, i) {
-                let a = k * n;
-                let ae = a + n;
-                if divides(&room[a..ae], &room[b..be]) {
+                if divides(row(room, n, k), row(room, n, i)) {
                     return k;
                 }
             }

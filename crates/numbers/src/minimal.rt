@@ -1,5 +1,6 @@
 // Lists made smaller with the same multiples, and the quotients by a power.
 use crate::rows::copy_cells;
+use crate::rows::row;
 ghost use mathlib.Core.Bool.{true};
 ghost use mathlib.Core.Logic.{_≢_};
 ghost use mathlib.Core.Path.{_≡_};
@@ -29,16 +30,12 @@ fn divisor(room: &[u16], n: usize, m: usize, i: usize, having: u64) -> usize
     requires { ⌜ (m * n ≤ length (now room)) × (i < m) ⌝ }
     ensures { λ r. ⌜ (r < m → (r ≢ i) × (dividesCells (at n r (now (room .entry))) (at n i (now (room .entry))) ≡ true)) ⌝ }
 {
-    let b = i * n;
-    let be = b + n;
     let mut bits = having;
     let mut k: usize = 0;
     while k < m {
         if bits % 2 == 1 {
             if k != i {
-                let a = k * n;
-                let ae = a + n;
-                if divides(&room[a..ae], &room[b..be]) {
+                if divides(row(room, n, k), row(room, n, i)) {
                     return k;
                 }
             }

@@ -1,5 +1,6 @@
 // The variable to split on, and its exponent. The choice is free: what is asked of it is that two monomials reach the power, and that
 // with no such variable the list is pairwise coprime.
+use crate::rows::exponent;
 ghost use mathlib.Core.Logic.{_⊎_};
 ghost use mathlib.Core.Path.{_≡_};
 ghost use Prim.Native.Nat.{_*_, _<_, _≤_};
@@ -28,7 +29,7 @@ pub(crate) fn column(room: &[u16], n: usize, m: usize, v: usize) -> ColumnCount
     let mut least: u16 = 65535;
     let mut i: usize = 0;
     while i < m {
-        let x = room[i * n + v];
+        let x = exponent(room, n, i, v);
         if x > 0 {
             count += 1;
             if x < least {
@@ -86,7 +87,7 @@ fn count_above(room: &[u16], n: usize, m: usize, v: usize, e: u16) -> usize
     let mut count: usize = 0;
     let mut i: usize = 0;
     while i < m {
-        if room[i * n + v] >= e {
+        if exponent(room, n, i, v) >= e {
             count += 1;
         }
         i += 1;
@@ -118,7 +119,7 @@ fn raised(room: &[u16], n: usize, m: usize, v: usize, e: u16, count: usize) -> u
     let mut best = e;
     let mut i: usize = 0;
     while i < m {
-        let x = room[i * n + v];
+        let x = exponent(room, n, i, v);
         best = better(room, n, m, v, x, best, enough);
         i += 1;
     }

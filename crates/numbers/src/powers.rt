@@ -1,6 +1,7 @@
 // Pure powers: the least one of each variable, and from them the degree bound and the product, with the checks 13 and 11.
 use crate::hf_at::MAX_DEGREE;
 use crate::leaf::degree;
+use crate::rows::row;
 use crate::wide::Product;
 use crate::wide::Wide;
 ghost use mathlib.Core.Bool.{cond};
@@ -28,9 +29,7 @@ pub(crate) fn has_unit(n: usize, s: usize, cells: &[u16]) -> bool
 {
     let mut i: usize = 0;
     while i < s {
-        let a = i * n;
-        let e = a + n;
-        if degree(&cells[a..e]) == 0 {
+        if degree(row(cells, n, i)) == 0 {
             return true;
         }
         i += 1;
@@ -81,9 +80,7 @@ pub(crate) fn least_powers(n: usize, s: usize, cells: &[u16], powers: &mut [u16]
     let mut i = s;
     while 0 < i {
         i -= 1;
-        let a = i * n;
-        let e = a + n;
-        take_in(&cells[a..e], powers);
+        take_in(row(cells, n, i), powers);
     }
 }
 

@@ -3,8 +3,26 @@ ghost use mathlib.Core.Logic.{_⊎_};
 ghost use mathlib.Core.Path.{_≡_};
 ghost use Prim.Native.Nat.{_+_, _*_, _<_, _≤_};
 ghost use lib.ListN.{length, getD, replicate};
-ghost use Rattle.laws.proofs.Rows.{Wrote, axis};
+ghost use Rattle.laws.proofs.Rows.{Wrote, at, axis};
 ghost use Rattle.laws.proofs.Pass.{Swapped, Thinned};
+
+// Monomial i, as a part of the room.
+pub(crate) fn row(room: &[u16], n: usize, i: usize) -> &[u16]
+    requires { ⌜ i * n + n ≤ length (now room) ⌝ }
+    ensures { λ r. ⌜ now r ≡ at n i (now (room .entry)) ⌝ }
+{
+    let a = i * n;
+    let e = a + n;
+    &room[a..e]
+}
+
+// The exponent of variable v in monomial i.
+pub(crate) fn exponent(room: &[u16], n: usize, i: usize, v: usize) -> u16
+    requires { ⌜ i * n + v < length (now room) ⌝ }
+    ensures { λ r. ⌜ r ≡ getD (now (room .entry)) (i * n + v) 0 ⌝ }
+{
+    room[i * n + v]
+}
 
 // n cells from `from` to `to`.
 pub(crate) fn copy_cells(room: &mut [u16], from: usize, to: usize, n: usize)

@@ -11,6 +11,7 @@ use crate::numerator::LengthAnswer;
 use crate::numerator::LengthOutcome;
 use crate::numerator::refused;
 use crate::quotients::quotients;
+use crate::rows::row;
 use crate::rows::wipe;
 use crate::signed::magnitude;
 use monomials::refusal::MAX_COUNT;
@@ -137,9 +138,7 @@ fn add_generator(
     ensures { λ _. ⌜ AddedTo (taken (both n s (now (xs .entry)) t (now (ys .entry))) (at n t (now (ys .entry)))) (now (first .entry)) (now (first .exit)) ⌝ }
     ensures { λ _. ⌜ (length (now (second .exit)) ≡ length (now (second .entry))) × Zeros (now (second .exit)) ⌝ }
 {
-    let a = t * n;
-    let ae = a + n;
-    let g = &ys[a..ae];
+    let g = row(ys, n, t);
     let m = quotients(room, n, s, xs, t, ys, g);
     let d = degree(g);
     let minus = [-1i64; 1];

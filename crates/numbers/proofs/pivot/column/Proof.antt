@@ -1,11 +1,12 @@
-use Prim.Native.Nat.{_-_, _<_, _≤_}
-use borrow.Author.Needs.{needs}
+use Prim.Native.Nat.{_-_, _<_, _≤_, ℕ}
+use lib.ListN.{length}
 use mathlib.Core.Logic.{⊎-elim}
-use mathlib.Core.Path.{_≡_}
+use mathlib.Core.Path.{subst}
+use native.Mathlib.Nat.{le-refl}
 use native.Mathlib.Omega.{arith}
-use Rattle.laws.proofs.Column.{Counted, counted-more, counted-none, counted-skip}
-use Rattle.laws.proofs.Rows.{row-end}
-use Rattle.laws.specs.Count.{count}
+use Rattle.laws.proofs.Column.{Counted, counted-none}
+use Rattle.numbers.proofs.Steps.{cell-in, fits-step, loop-ended, next-fits, next-less, zero-least}
+use Rattle.numbers.proofs.ToLaws.{column-lesser, column-none, column-other}
 use Rattle.numbers.proofs.pivot.column.Statement.{statement}
 use Rattle.numbers.proofs.pivot.column.Tie as tie
 
@@ -22,22 +23,16 @@ column-spec =
     Inv-loop
     μ-loop
     -- loop-holds
-    (λ c. (omega arith, omega arith, omega arith, counted-none _ _ _ _ (omega arith)))
-    -- mul-x
-    (λ c. let p1 = c .before in let p2 = p1 .before in omega (arith, row-end (p2 .args .n) (p2 .args .m) (p1 .loop .i) (omega arith)))
-    -- add-x
-    (λ c. let p1 = c .before in let p2 = p1 .before in omega (arith, row-end (p2 .args .n) (p2 .args .m) (p1 .loop .i) (omega arith)))
-    -- mul-x-2
-    (λ c. let p1 = c .before in let p2 = p1 .before in omega (arith, row-end (p2 .args .n) (p2 .args .m) (p1 .loop .i) (omega arith)))
-    -- shared-slice-read-x
-    (λ c. let p2 = c .before .before in let p3 = p2 .before in omega (arith, row-end (p3 .args .n) (p3 .args .m) (p2 .loop .i) (omega arith)))
-    (λ c. search needs)
-    (λ c. search needs)
-    (λ c. search needs)
+    (λ c. let p1 = c .before in (zero-least (p1 .args .m), le-refl 0, omega arith, counted-none (p1 .args .n) (p1 .args .v) 65535 (p1 .args .room .now) (omega arith)))
+    -- exponent-requires
+    (λ c κs. let p1 = c .before in let p3 = p1 .before .before in cell-in (p3 .args .n) (p3 .args .m) (p1 .loop .i) (p3 .args .v) (length (p3 .args .room .now)) (c .loop-test .taken) (p3 .pre .1) (p3 .pre .0))
+    -- add-count
+    (λ c. let p2 = c .before .before in let p3 = p2 .before in let p5 = p3 .before .before in fits-step (p3 .loop .count) (p3 .loop .i) (p5 .args .m) (p3 .loop .inv .1) (p2 .loop-test .taken) (p5 .fits .m))
+    -- add-i
+    (λ c. let p2 = c .before .before in let p3 = p2 .before in let p5 = p3 .before .before in next-fits (p3 .loop .i) (p5 .args .m) (p2 .loop-test .taken) (p5 .fits .m))
+    -- loop-less
+    (λ c. let p2 = c .before .before in let p3 = p2 .before in let p5 = p3 .before .before in next-less (p3 .loop .i) (p5 .args .m) (p2 .loop-test .taken))
     -- loop-again
-    (λ c. let p3 = c .before .before .before in let i = p3 .loop .inv .3 in
-    ⊎-elim (λ w. (omega arith, omega (arith, w .2), omega (arith, w .3, w .1 .taken), rw (w .2, w .3) (counted-more _ _ _ _ _ _ _ (w .0 .taken) (omega (arith, w .1 .taken)) (omega arith) (w .0 .taken) i)))
-    (⊎-elim (λ w. (omega arith, omega (arith, w .2), omega (arith, w .3), rw (w .2, w .3) (counted-more _ _ _ _ _ _ _ (w .0 .taken) (omega arith) (omega (arith, w .1 .left)) (i .positive) i)))
-    (λ w. (omega arith, omega (arith, w .1), omega (arith, w .2), rw (w .1, w .2) (counted-skip _ _ _ _ _ _ (w .0 .left) i)))) (c .if1 .came))
+    (λ c. let p1 = c .before in let p2 = p1 .before in let p3 = p2 .before in let p5 = p3 .before .before in ⊎-elim (λ w. column-lesser (p5 .args .n) (p5 .args .m) (p5 .args .v) (p3 .loop .i) (p3 .loop .count) (p3 .loop .least) (p1 .exponent .result) (p5 .args .room .now) (p2 .loop-test .taken) (p3 .loop .inv .1) (p3 .loop .inv .2) (p1 .exponent .ensures) (p3 .loop .inv .3) (c .if1 .count) (c .if1 .least) (w .0 .taken) (w .1 .taken) (w .2) (w .3)) (⊎-elim (λ w. column-other (p5 .args .n) (p5 .args .m) (p5 .args .v) (p3 .loop .i) (p3 .loop .count) (p3 .loop .least) (p1 .exponent .result) (p5 .args .room .now) (p2 .loop-test .taken) (p3 .loop .inv .1) (p3 .loop .inv .2) (p1 .exponent .ensures) (p3 .loop .inv .3) (c .if1 .count) (c .if1 .least) (w .0 .taken) (w .1 .left) (w .2) (w .3)) (λ w. column-none (p5 .args .n) (p5 .args .m) (p5 .args .v) (p3 .loop .i) (p3 .loop .count) (p3 .loop .least) (p1 .exponent .result) (p5 .args .room .now) (p2 .loop-test .taken) (p3 .loop .inv .1) (p3 .loop .inv .2) (p1 .exponent .ensures) (p3 .loop .inv .3) (c .if1 .count) (c .if1 .least) (w .0 .left) (w .1) (w .2))) (c .if1 .came))
     -- returns
-    (λ c. let p1 = c .before in let p2 = p1 .before in let e : p1 .loop .i ≡ p2 .args .m = omega arith in rw e at (p1 .loop .inv .3)))
+    (λ c. let p1 = c .before in let p3 = p1 .before .before in subst (λ (k : ℕ). Counted (p3 .args .n) (p3 .args .v) (p3 .args .room .now) k (p1 .loop .count) (p1 .loop .least)) (loop-ended (p1 .loop .i) (p3 .args .m) (p1 .loop .inv .0) (c .loop-test .left)) (p1 .loop .inv .3)))

@@ -1,11 +1,11 @@
 use Prim.Native.Nat.{_-_, _≤_}
-use borrow.Author.Needs.{needs}
+use lib.ListN.{length}
 use mathlib.Core.Logic.{⊎-elim}
-use mathlib.Core.Path.{_≡_, refl}
-use native.Mathlib.Omega.{arith}
-use Rattle.laws.proofs.Column.{above, above-no, above-yes}
-use Rattle.laws.proofs.Rows.{row-end}
-use Rattle.laws.specs.Count.{count}
+use mathlib.Core.Path.{_∙_, _≡_, ap, refl}
+use native.Mathlib.Nat.{le-refl}
+use Rattle.laws.proofs.Column.{above}
+use Rattle.numbers.proofs.Steps.{cell-in, fits-step, loop-ended, next-fits, next-less, zero-least}
+use Rattle.numbers.proofs.ToLaws.{above-more, above-same}
 use Rattle.numbers.proofs.pivot.count_above.Statement.{statement}
 use Rattle.numbers.proofs.pivot.count_above.Tie as tie
 
@@ -22,22 +22,16 @@ count-above-spec =
     Inv-loop
     μ-loop
     -- loop-holds
-    (λ c. (omega arith, omega arith, refl))
-    -- mul-if1
-    (λ c. let p1 = c .before in let p2 = p1 .before in omega (arith, row-end (p2 .args .n) (p2 .args .m) (p1 .loop .i) (omega arith)))
-    -- add-if1
-    (λ c. let p1 = c .before in let p2 = p1 .before in omega (arith, row-end (p2 .args .n) (p2 .args .m) (p1 .loop .i) (omega arith)))
-    -- mul-if1-2
-    (λ c. let p1 = c .before in let p2 = p1 .before in omega (arith, row-end (p2 .args .n) (p2 .args .m) (p1 .loop .i) (omega arith)))
-    -- shared-slice-read-if1
-    (λ c. let p2 = c .before .before in let p3 = p2 .before in omega (arith, row-end (p3 .args .n) (p3 .args .m) (p2 .loop .i) (omega arith)))
-    (λ c. search needs)
-    (λ c. search needs)
-    (λ c. search needs)
+    (λ c. let p1 = c .before in (zero-least (p1 .args .m), le-refl 0, refl))
+    -- exponent-requires
+    (λ c κs. let p1 = c .before in let p3 = p1 .before .before in cell-in (p3 .args .n) (p3 .args .m) (p1 .loop .i) (p3 .args .v) (length (p3 .args .room .now)) (c .loop-test .taken) (p3 .pre .1) (p3 .pre .0))
+    -- add-count
+    (λ c. let p2 = c .before .before in let p3 = p2 .before in let p5 = p3 .before .before in fits-step (p3 .loop .count) (p3 .loop .i) (p5 .args .m) (p3 .loop .inv .1) (p2 .loop-test .taken) (p5 .fits .m))
+    -- add-i
+    (λ c. let p2 = c .before .before in let p3 = p2 .before in let p5 = p3 .before .before in next-fits (p3 .loop .i) (p5 .args .m) (p2 .loop-test .taken) (p5 .fits .m))
+    -- loop-less
+    (λ c. let p2 = c .before .before in let p3 = p2 .before in let p5 = p3 .before .before in next-less (p3 .loop .i) (p5 .args .m) (p2 .loop-test .taken))
     -- loop-again
-    (λ c. let p3 = c .before .before .before in let p4 = p3 .before in let a = p4 .args in
-    let l = p3 .loop in
-    ⊎-elim (λ w. (omega arith, omega (arith, w .1), omega (arith, w .1, above-yes (a .n) (a .v) (a .e) (l .i) (a .room .now) (w .0 .taken))))
-    (λ w. (omega arith, omega (arith, w .1), omega (arith, w .1, above-no (a .n) (a .v) (a .e) (l .i) (a .room .now) (w .0 .left)))) (c .if1 .came))
+    (λ c. let p1 = c .before in let p2 = p1 .before in let p3 = p2 .before in let p5 = p3 .before .before in ⊎-elim (λ w. above-more (p5 .args .n) (p5 .args .m) (p5 .args .v) (p5 .args .e) (p3 .loop .i) (p1 .exponent .result) (p3 .loop .count) (p5 .args .room .now) (p2 .loop-test .taken) (p3 .loop .inv .1) (p1 .exponent .ensures) (p3 .loop .inv .2) (c .if1 .count) (w .0 .taken) (w .1)) (λ w. above-same (p5 .args .n) (p5 .args .m) (p5 .args .v) (p5 .args .e) (p3 .loop .i) (p1 .exponent .result) (p3 .loop .count) (p5 .args .room .now) (p2 .loop-test .taken) (p3 .loop .inv .1) (p1 .exponent .ensures) (p3 .loop .inv .2) (c .if1 .count) (w .0 .left) (w .1)) (c .if1 .came))
     -- returns
-    (λ c. let p1 = c .before in let p2 = p1 .before in let e : p1 .loop .i ≡ p2 .args .m = omega arith in rw e at (p1 .loop .inv .2)))
+    (λ c. let p1 = c .before in let p3 = p1 .before .before in p1 .loop .inv .2 ∙ ap (above (p3 .args .n) (p3 .args .v) (p3 .args .e) (p3 .args .room .now)) (loop-ended (p1 .loop .i) (p3 .args .m) (p1 .loop .inv .0) (c .loop-test .left))))

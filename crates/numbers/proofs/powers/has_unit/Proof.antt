@@ -1,15 +1,14 @@
-use mathlib.Core.Path.{ap, _≡_, sym, _∙_}
+use Prim.Native.Nat.{_-_}
+use mathlib.Core.Path.{_≡_, ap, sym}
 use Rattle.laws.proofs.Ideal.{listed-all, listedFrom}
-use Prim.Native.Nat.{_≤_, _-_}
-use native.Mathlib.Omega.{arith}
 use Rattle.laws.specs.Ideal.{listed, unitIn}
-use Rattle.numbers.proofs.LeastPowers.{row-there, row-length, unit-found, unit-next, unit-none}
-use borrow.Author.Needs.{needs}
+use Rattle.numbers.proofs.LeastPowers.{row-small, row-there, unit-found, unit-next, unit-none}
+use Rattle.numbers.proofs.Steps.{next-fits, next-less}
 use Rattle.numbers.proofs.powers.has_unit.Statement.{statement}
 use Rattle.numbers.proofs.powers.has_unit.Tie as tie
 
 abbrev Inv-loop : tie.InvT-loop
-Inv-loop n s cells i₀ i = (i ≤ s) × (unitIn (listed n s cells) ≡ unitIn (listedFrom n s i cells))
+Inv-loop n s cells i₀ i = unitIn (listed n s cells) ≡ unitIn (listedFrom n s i cells)
 
 abbrev μ-loop : tie.MeasureT-loop
 μ-loop n s cells i₀ i = s - i
@@ -20,16 +19,19 @@ has-unit-spec =
     (tie.spec
     Inv-loop
     μ-loop
-    (λ c. (search needs, sym (ap unitIn (listed-all (c .before .args .n) (c .before .args .s) (c .before .args .cells .now)))))
-    (λ c. omega (arith, row-there (c .before .before .before .args .n) (c .before .before .before .args .s) (c .before .before .before .args .cells .now) (c .before .before .before .pre) (c .before .loop .i) (search needs)))
-    (λ c. omega (arith, row-there (c .before .before .before .args .n) (c .before .before .before .args .s) (c .before .before .before .args .cells .now) (c .before .before .before .pre) (c .before .loop .i) (search needs)))
-    (λ c. omega (arith, row-there (c .before .before .before .args .n) (c .before .before .before .args .s) (c .before .before .before .args .cells .now) (c .before .before .before .pre) (c .before .loop .i) (search needs)))
-    (λ c. omega arith)
-    (λ c. search needs)
-    (λ c. row-there (c .before .before .before .args .n) (c .before .before .before .args .s) (c .before .before .before .args .cells .now) (c .before .before .before .pre) (c .before .loop .i) (search needs) .0)
-    (λ c κs. omega (arith, row-length (c .before .before .before .before .args .n) (c .before .before .before .before .args .s) (c .before .before .before .before .args .cells .now) (c .before .before .before .before .pre) (c .before .before .loop .i) (search needs), c .before .before .before .before .pre .width))
-    (λ c. unit-found (c .before .before .before .before .before .before .args .n) (c .before .before .before .before .before .before .args .s) (c .before .before .before .before .before .before .args .cells .now) (c .before .before .before .before .before .before .pre) (c .before .before .before .before .loop .i) (search needs) (sym (c .before .degree .ensures .0) ∙ c .if1 .taken) (c .before .before .before .before .loop .inv .1))
-    (λ c. search needs)
-    (λ c. search needs)
-    (λ c. (search needs, unit-next (c .before .before .before .before .before .before .args .n) (c .before .before .before .before .before .before .args .s) (c .before .before .before .before .before .before .args .cells .now) (c .before .before .before .before .before .before .pre) (c .before .before .before .before .loop .i) (search needs) (λ z. c .if1 .left (c .before .degree .ensures .0 ∙ z)) (c .before .before .before .before .loop .inv .1)))
-    (λ c. unit-none (c .before .before .before .args .n) (c .before .before .before .args .s) (c .before .before .before .args .cells .now) (c .before .before .before .pre) (c .before .loop .i) (search needs) (c .before .loop .inv .1)))
+    -- loop-holds
+    (λ c. let p1 = c .before in sym (ap unitIn (listed-all (p1 .args .n) (p1 .args .s) (p1 .args .cells .now))))
+    -- row-requires
+    (λ c κs. let p1 = c .before in let p3 = p1 .before .before in row-there (p3 .args .n) (p3 .args .s) (p3 .args .cells .now) (p3 .pre) (p1 .loop .i) (c .loop-test .taken))
+    -- degree-requires
+    (λ c κs. let p1 = c .before in let p2 = p1 .before in let p4 = p2 .before .before in row-small (p4 .args .n) (p4 .args .s) (p4 .args .cells .now) (p4 .pre) (p2 .loop .i) (c .row .result .now) (p1 .loop-test .taken) (c .row .ensures))
+    -- returns
+    (λ c. let p1 = c .before in let p2 = p1 .before in let p3 = p2 .before in let p4 = p3 .before in let p6 = p4 .before .before in unit-found (p6 .args .n) (p6 .args .s) (p6 .args .cells .now) (p6 .pre) (p4 .loop .i) (p2 .row .result .now) (p3 .loop-test .taken) (p2 .row .ensures) (p1 .degree .result) (p1 .degree .ensures .0) (p4 .loop .inv) (c .if1 .taken))
+    -- add-i
+    (λ c. let p3 = c .before .before .before in let p4 = p3 .before in let p6 = p4 .before .before in next-fits (p4 .loop .i) (p6 .args .s) (p3 .loop-test .taken) (p6 .fits .s))
+    -- loop-less
+    (λ c. let p3 = c .before .before .before in let p4 = p3 .before in let p6 = p4 .before .before in next-less (p4 .loop .i) (p6 .args .s) (p3 .loop-test .taken))
+    -- loop-again
+    (λ c. let p1 = c .before in let p2 = p1 .before in let p3 = p2 .before in let p4 = p3 .before in let p6 = p4 .before .before in unit-next (p6 .args .n) (p6 .args .s) (p6 .args .cells .now) (p6 .pre) (p4 .loop .i) (p2 .row .result .now) (p3 .loop-test .taken) (p2 .row .ensures) (p1 .degree .result) (p1 .degree .ensures .0) (p4 .loop .inv) (c .if1 .left))
+    -- returns-2
+    (λ c. let p1 = c .before in let p3 = p1 .before .before in unit-none (p3 .args .n) (p3 .args .s) (p3 .args .cells .now) (p3 .pre) (p1 .loop .i) (c .loop-test .left) (p1 .loop .inv)))
