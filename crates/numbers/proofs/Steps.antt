@@ -75,3 +75,15 @@ next-row n t L h = omega (arith, row-end n (t + 1) t (next-above t))
 
 pub row-start : (n t z : ℕ) → t * n ≤ t * n + z
 row-start n t z = omega arith
+
+pub half-within : (a L : ℕ) → a + a ≤ L → a ≤ L
+half-within a L h = omega arith
+
+pub some-there : (i m : ℕ) → i < m → 1 ≤ m
+some-there i m h = omega arith
+
+pub below-last : (i m : ℕ) → i < m → i ≤ m - 1
+below-last i m h = omega arith
+
+pub next-fits-most : (i k m : ℕ) → i < k → k ≤ m → Fits w64 m → Fits w64 (i + 1)
+next-fits-most i k m h g f = omega arith

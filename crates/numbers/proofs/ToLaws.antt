@@ -5,6 +5,12 @@ use mathlib.Core.List.{List, [], _∷_, _++_}
 use Prim.Native.Nat.{ℕ, zero, suc, _+_, _*_, _-_, _^_, _≤_, _<_}
 use native.Mathlib.Omega.{arith}
 use lib.ListN.{length, getD}
+use native.Mathlib.Nat.{mul-le-mul-right}
+use mir.Syntax.{w64}
+use mir.Val.{Fits}
+use Rattle.laws.proofs.Branch.{Summed, summed-keep, summed-skip, summed-less}
+use Rattle.laws.proofs.Pass.{Thinned}
+use Rattle.laws.proofs.Rows.{Wrote, row-end}
 use Rattle.laws.proofs.Column.{above, above-yes, above-no, Counted, counted-more, counted-skip}
 use Rattle.numbers.proofs.Steps.{next-step, later-step}
 
@@ -37,3 +43,72 @@ module _ (n m v e i x count : ℕ) (xs : List ℕ) (b : i < m) (h : count ≤ i)
 pub above-raised : (n m v best enough r : ℕ) (xs : List ℕ) → 2 ≤ enough → 0 < best → 2 ≤ above n v best xs m → (r ≡ best) ⊎ ((best < r) × (enough ≤ above n v r xs m)) → (2 ≤ enough) × (0 < r) × (2 ≤ above n v r xs m)
 above-raised n m v best enough r xs g p q (inl e) = (g, rw e p, rw e q)
 above-raised n m v best enough r xs g p q (inr w) = (g, omega (arith, w .0), omega (arith, w .1))
+
+-- Pass: the list of k monomials in ys, of which number i is looked at
+module _ (n m k i : ℕ) (xs ys : List ℕ) (g : m * n ≤ length xs) (t : Thinned n m xs k ys) (b : i < k) where
+  pub thinned-room : k * n ≤ length ys
+  thinned-room = omega (arith, mul-le-mul-right n (t .less), t .len)
+
+  pub thinned-row : i * n + n ≤ length ys
+  thinned-row = omega (arith, row-end n k i b, thinned-room)
+
+  pub thinned-last : (k - 1) * n + n ≤ length ys
+  thinned-last = omega (arith, row-end n k (k - 1) (omega arith), thinned-room)
+
+  pub thinned-before : i * n ≤ (k - 1) * n
+  thinned-before = mul-le-mul-right n (omega arith)
+
+  module _ (f : length xs < 2 ^ 64) where
+    pub thinned-row-fits : Fits w64 (i * n)
+    thinned-row-fits = omega (arith, thinned-row, t .len)
+
+    pub thinned-last-fits : Fits w64 ((k - 1) * n)
+    thinned-last-fits = omega (arith, thinned-last, t .len)
+
+-- one monomial fewer, or the next one: the measure of a pass
+pub fewer-less : (k i : ℕ) → i < k → k - 1 + (k - 1) - i < k + k - i
+fewer-less k i h = omega arith
+
+pub later-less : (k i : ℕ) → i < k → k + k - (i + 1) < k + k - i
+later-less k i h = omega arith
+
+-- Branch: a list of m monomials in xs, and behind it k of the first i
+module _ (n m v e i k : ℕ) (xs ys : List ℕ) (g : m * n + m * n ≤ length xs) (s : Summed n m v e xs i k ys) where
+  module _ (b : i < m) (l : v < n) where
+    pub summed-cell : i * n + v < length ys
+    summed-cell = omega (arith, row-end n m i b, s .len)
+
+    pub summed-row : i * n + n ≤ length ys
+    summed-row = omega (arith, row-end n m i b, s .len)
+
+    pub summed-row-fits : length xs < 2 ^ 64 → Fits w64 (i * n)
+    summed-row-fits f = omega (arith, row-end n m i b)
+
+    pub summed-cell-fits : length xs < 2 ^ 64 → Fits w64 (i * n + v)
+    summed-cell-fits f = omega (arith, row-end n m i b)
+
+    pub summed-cell-bytes : length xs * 2 < 2 ^ 63 → Fits w64 ((i * n + v) * 2)
+    summed-cell-bytes f = omega (arith, row-end n m i b)
+
+    pub summed-apart : i * n + n ≤ m * n + k * n
+    summed-apart = omega (arith, row-end n m i b)
+
+    module _ (q : k ≤ i) (j : ℕ) (zs : List ℕ) where
+      abbrev pub SummedNext : Type 0
+      SummedNext = (i + 1 ≤ m) × (j ≤ i + 1) × (m * n ≡ m * n) × Summed n m v e xs (i + 1) j zs
+
+      pub summed-one : (ws : List ℕ) → getD ys (i * n + v) 0 < e → Wrote ys (λ t. getD ys (i * n + t) 0) (m * n + k * n) n ws → zs ≡ ws → j ≡ k + 1 → SummedNext
+      summed-one ws h w y z = rw (y, z) (omega arith, omega arith, refl, summed-keep n m v e xs i k ys ws g b (omega arith) (omega (arith, s .kept (i * n + v) (omega (arith, row-end n m i b)))) w s)
+
+      pub summed-none-more : e ≤ getD ys (i * n + v) 0 → zs ≡ ys → j ≡ k → SummedNext
+      summed-none-more h y z = rw (y, z) (omega arith, omega arith, refl, summed-skip n m v e xs i k ys l (omega (arith, s .kept (i * n + v) (omega (arith, row-end n m i b)))) s)
+
+  module _ (b : k < m) where
+    pub summed-to : m * n + k * n + n ≤ length ys
+    summed-to = omega (arith, row-end n m k b, s .len)
+
+    pub summed-to-fits : length xs < 2 ^ 64 → Fits w64 (m * n + k * n)
+    summed-to-fits f = omega (arith, row-end n m k b)
+
+    pub summed-behind-fits : length xs < 2 ^ 64 → Fits w64 (k * n)
+    summed-behind-fits f = omega (arith, row-end n m k b)
