@@ -62,6 +62,7 @@ def hf_limits():
     for n, d, beside in ((30, 300, []), (12, 3000, []), (30, 300, [-5]), (20, 700, [3, -4]), (66, 40, [])):
         yield from next_to_bound(n, d, beside)
     yield hf_at_case(12, [2 ** 62, -2 ** 62], 3000)
+    yield hf_at_case(6, [2 ** 63 - 1, 1 - 2 ** 63], 65536)
     yield "magnitudes that sum to 2^127 - 1, and to 2^127"
     yield from exactly_at_bound()
     yield "width 255 and above, with the order of checks"
@@ -73,6 +74,8 @@ def hf_limits():
         yield hf_at_case(n, [1, -1, 3], 65536)
         yield hf_at_case(n, [1, -1, 3], 65536, 1)
         yield "hf_at", n, [1], 65537, 4 * 65538
+    yield "the greatest width at the greatest degree"
+    yield from (hf_at_case(255, given, 65536) for given in ([], [0, 0], [1], [1, -1]))
     yield "hf_at", 3, [1], 2 ** 62 - 1, 4
     yield "hf_at", 3, [1], WORD_END, 0
     for short in (1, 0, -1, -3):
@@ -209,7 +212,8 @@ def dimensions():
         yield dimension_case(len(powers), pure(powers))
     yield "13 before 11, 11 before the rooms; a unit and n = 0 before all of them, and no room touched"
     for n, listed in ((2, pure([65535, 65535])), (14, pure([1024] * 12 + [128] + [65535])), (13, pure([1024] * 12 + [128])),
-                      (13, pure([1024] * 12 + [127])), (2, [(0, 0), (3, 0)]), (0, []), (0, [()]), (3, [(1, 1, 0)])):
+                      (13, pure([1024] * 12 + [127])), (2, [(0, 0), (3, 0)]), (2, [(3, 0), (0, 0)]), (0, []), (0, [()]),
+                      (3, [(1, 1, 0)])):
         yield "dimension", n, len(listed), flat(listed), 0, 0, 0, 0
     yield "the least pure power counts, wherever it stands"
     for listed in ([(5, 0), (3, 0), (0, 2)], [(3, 0), (5, 0), (0, 2)], [(0, 2), (5, 0), (3, 0), (4, 0)], [(1, 0), (0, 1)]):

@@ -2,12 +2,14 @@
 --   total-next, total-none       what is left to add, at one count more and at the end
 --   spaced-next, spaced-none     the next cell of a variable, if there is one
 --   held-here, held-later        whether a number stands in the cells of a variable: in this one, or in those after it
+--   greatest-later, greatest-none   the greatest of the cells of a variable, one by one
 --   pairs-next, pairs-none       how many pairs are left
+--   above-next, above-none       what is left of the degree
 -- Assumes nothing.
 use mathlib.Core.Path.{_≡_, refl, sym, ap, _∙_}
 use mathlib.Core.Bool.{Bool, true, false, cond, _||_}
 use mathlib.Core.List.{List, [], _∷_}
-use Prim.Native.Nat.{ℕ, zero, suc, _+_, _-_, _%_, _^_, _≤_, _<_}
+use Prim.Native.Nat.{ℕ, zero, suc, _+_, _-_, _%_, _^_, _≤_, _<_, max}
 use native.Mathlib.Omega.{arith}
 use native.Mathlib.Numerals.{add-one}
 use lib.Dec.{eqb}
@@ -15,9 +17,10 @@ use lib.ListN.{length, getD, drop, length-drop, drop-of-length-le}
 use lib.Seq.{drop-drop}
 use borrow.Author.Tests.{eq-eqb, ne-eqb}
 use Rattle.laws.specs.Room.{holds}
+use Rattle.laws.proofs.Asked.{greatest}
 use Rattle.laws.proofs.Lists.{drop-next}
 use Rattle.vectors.specs.Counts.{total}
-use Rattle.vectors.specs.Asked.{spaced, pairsIn}
+use Rattle.vectors.specs.Asked.{spaced, pairsIn, above}
 
 pub total-next : (xs : List ℕ) (i sum next t : ℕ) → i < length xs → next ≡ (sum + getD xs i 0) % 2 ^ 64 → (sum + total (drop i xs)) % 2 ^ 64 ≡ t
     → (next + total (drop (i + 1) xs)) % 2 ^ 64 ≡ t
@@ -47,6 +50,20 @@ module _ (g : ℕ) (cells : List ℕ) (j : ℕ) where
   pub held-later : (x : ℕ) → j + g < length cells → (x ≡ getD cells (j + g) 0 → ⊥)
       → holds x (spaced g g (drop j cells)) ≡ holds x (spaced g g (drop (j + g + 1) cells))
   held-later x h e = rw (spaced-next h, ne-eqb x (getD cells (j + g) 0) e)
+
+  pub greatest-later : (m t : ℕ) → j + g < length cells → max m (greatest (spaced g g (drop j cells))) ≡ t
+      → max (max m (getD cells (j + g) 0)) (greatest (spaced g g (drop (j + g + 1) cells))) ≡ t
+  greatest-later m t h e = omega (arith, ap greatest (spaced-next h))
+
+  pub greatest-none : (m : ℕ) → length cells ≤ j + g → max m (greatest (spaced g g (drop j cells))) ≡ m
+  greatest-none m h = omega (arith, ap greatest (spaced-from ∙ ap (spaced g 0) (drop-of-length-le cells h)))
+
+pub above-next : (g : ℕ) (cells : List ℕ) (i d : ℕ) → i < length cells → d ≡ getD cells i 0 - greatest (spaced g g (drop (i + 1) cells))
+    → above g (drop i cells) ≡ d + above g (drop (i + 1) cells)
+above-next g cells i d h e = rw e (ap (above g) (drop-next cells i h))
+
+pub above-none : (g : ℕ) (cells : List ℕ) (i : ℕ) → length cells ≤ i → above g (drop i cells) ≡ 0
+above-none g cells i h = ap (above g) (drop-of-length-le cells h)
 
 pub pairs-next : (g : ℕ) (cells : List ℕ) (i e : ℕ) → i < length cells
     → e ≡ cond (eqb (getD cells i 0) 0 || holds (getD cells i 0) (spaced g g (drop (i + 1) cells))) 0 1

@@ -25,6 +25,7 @@ use Rattle.vectors.proofs.rooms.are_coefficients.Reads as are-coefficie
 use Rattle.vectors.proofs.counts.tally.Reads as tally
 use Rattle.vectors.proofs.counts.say_counts.Reads as say-counts
 use Rattle.vectors.proofs.asked.cells_asked.Reads as cells-asked
+use Rattle.vectors.proofs.asked.coefficients_asked.Reads as coefficients-asked
 use Rattle.vectors.proofs.told.refused.Reads as refused
 use Rattle.vectors.proofs.told.done.Reads as done
 use Rattle.vectors.proofs.told.is_told.Reads as is-told
@@ -83,6 +84,9 @@ say-counts-determined κs a r r′ s s′ p q = p ∙ sym q
 
 pub cells-asked-determined : (κs : Lfts 1) (a : _) (r r′ : ℕ) (s s′ : _) → cells-asked.Post κs a r s → cells-asked.Post κs a r′ s′ → r ≡ r′
 cells-asked-determined κs a r r′ s s′ p q = p ∙ sym q
+
+pub coefficients-asked-determined : (κs : Lfts 1) (a : _) (r r′ : ℕ) (s s′ : _) → coefficients-asked.Post κs a r s → coefficients-asked.Post κs a r′ s′ → r ≡ r′
+coefficients-asked-determined κs a r r′ s s′ p q = p ∙ sym q
 
 pub refused-determined : (κs : Lfts 0) (a : _) (r r′ : Told) (s s′ : _) → refused.Post κs a r s → refused.Post κs a r′ s′ → r ≡ r′
 refused-determined κs a r r′ s s′ p q = p ∙ sym q
