@@ -4,7 +4,7 @@
 --   Outcome r a b d e                  == they are what the call's contract says
 -- Assumes nothing.
 use mathlib.Core.Path.{_≡_, refl, sym, ap, _∙_}
-use mathlib.Core.Logic.{_≢_}
+use mathlib.Core.Logic.{_≢_, _⊎_}
 use mathlib.Core.Bool.{Bool, true, false, not, _||_, false≢true}
 use mathlib.Core.List.{List, [], _∷_, _++_, append-nil}
 use mathlib.Core.Option.{Option, none, some}
@@ -45,6 +45,7 @@ use Rattle.numbers.specs.declared.dimension.Checked.{Checked}
 use Rattle.numbers.specs.declared.dimension.DimensionOutcome.{DimensionOutcome}
 use Rattle.numbers.specs.declared.dimension.DimensionAnswer.{DimensionAnswer}
 use Rattle.numbers.proofs.LeastPowers.{product-exact, product-passed}
+use Rattle.numbers.proofs.ToLaws.{either-short}
 
 -- the checks 13 and 11
 
@@ -155,17 +156,12 @@ module _ (n : ℕ) (L : List (List ℕ)) (room : List ℕ) (p q : List ℤ) (sum
     stops-room r l e = stops CellRoom r (rw (lt-ltb (length room) (cellsAsked n L) (rw room-size at l))) e
 
     module _ (l : c ≤ length room) where
-      pub stops-first : (r : DimensionAnswer) → length p < k → r ≡ record { outcome = DimensionOutcome.Refused CoefficientRoom } → Left r room p q sums
-      stops-first r a e =
+      pub stops-coefficients : (r : DimensionAnswer) (y : ℕ) → (y ≡ length p) ⊎ (y ≡ length q) → y < k → r ≡ record { outcome = DimensionOutcome.Refused CoefficientRoom } → Left r room p q sums
+      stops-coefficients r y o a e =
           stops CoefficientRoom r
-          (rw (le-ltb (length room) (cellsAsked n L) (rw room-size at l), lt-ltb (length p) (coefficientsAsked L) (rw list-size at a))) e
+          (rw (le-ltb (length room) (cellsAsked n L) (rw room-size at l), either-short (coefficientsAsked L) (length p) (length q) y o (rw list-size at a))) e
 
       module _ (a : k ≤ length p) where
-        pub stops-second : (r : DimensionAnswer) → length q < k → r ≡ record { outcome = DimensionOutcome.Refused CoefficientRoom } → Left r room p q sums
-        stops-second r b e =
-            stops CoefficientRoom r
-            (rw (le-ltb (length room) (cellsAsked n L) (rw room-size at l), le-ltb (length p) (coefficientsAsked L) (rw list-size at a), lt-ltb (length q) (coefficientsAsked L) (rw list-size at b))) e
-
         module _ (b : k ≤ length q) where
           pub stops-sums : (r : DimensionAnswer) → length sums < dimensionWords d → r ≡ record { outcome = DimensionOutcome.Refused SumRoom } → Left r room p q sums
           stops-sums r h e =

@@ -2,6 +2,7 @@
 --   Outcome r a b d    == the answer r, and a, b, d in the exponent room and the two coefficient rooms, are what the contract says
 use mathlib.Core.Path.{_≡_, refl, sym, ap, _∙_}
 use mathlib.Core.Bool.{Bool, true, false, not, _||_}
+use mathlib.Core.Logic.{_⊎_}
 use mathlib.Core.List.{List, [], _∷_, _++_, append-nil}
 use mathlib.Core.Option.{Option, none, some}
 use Prim.Native.Nat.{ℕ, _+_, _*_, _-_, _≤_, _<_}
@@ -18,6 +19,7 @@ use Rattle.monomials.specs.declared.refusal.Refusal.the-variants.{Width, Count,
 use Rattle.numbers.specs.Numerator.{numeratorChecks, numeratorAnswer, numeratorRoom, numeratorFirst, numeratorSecond}
 use Rattle.numbers.specs.declared.numerator.LengthOutcome.{LengthOutcome}
 use Rattle.numbers.specs.declared.numerator.LengthAnswer.{LengthAnswer}
+use Rattle.numbers.proofs.ToLaws.{either-short}
 
 module _ (W C n s : ℕ) (cells room : List ℕ) (p q : List ℤ) where
   abbrev pub Outcome : LengthAnswer → List ℕ → List ℤ → List ℤ → Type 0
@@ -52,15 +54,10 @@ module _ (W C n s : ℕ) (cells room : List ℕ) (p q : List ℤ) where
         (rw (le-ltb W n h, le-ltb C s g, eq-eqb (length cells) (s * n) f, lt-ltb (length room) (cellsAsked n (listed n s cells)) (rw is-cells at l))) e
 
     module _ (l : c ≤ length room) where
-      pub refuses-first : (r : LengthAnswer) → length p < k → r ≡ record { outcome = LengthOutcome.Refused CoefficientRoom } → Outcome r room p q
-      refuses-first r a e =
+      pub refuses-coefficients : (r : LengthAnswer) (y : ℕ) → (y ≡ length p) ⊎ (y ≡ length q) → y < k → r ≡ record { outcome = LengthOutcome.Refused CoefficientRoom } → Outcome r room p q
+      refuses-coefficients r y o a e =
           refuses CoefficientRoom r
-          (rw (le-ltb W n h, le-ltb C s g, eq-eqb (length cells) (s * n) f, le-ltb (length room) (cellsAsked n (listed n s cells)) (rw is-cells at l), lt-ltb (length p) (coefficientsAsked (listed n s cells)) (rw is-coefficients at a))) e
-
-      pub refuses-second : (r : LengthAnswer) → k ≤ length p → length q < k → r ≡ record { outcome = LengthOutcome.Refused CoefficientRoom } → Outcome r room p q
-      refuses-second r a b e =
-          refuses CoefficientRoom r
-          (rw (le-ltb W n h, le-ltb C s g, eq-eqb (length cells) (s * n) f, le-ltb (length room) (cellsAsked n (listed n s cells)) (rw is-cells at l), le-ltb (length p) (coefficientsAsked (listed n s cells)) (rw is-coefficients at a), lt-ltb (length q) (coefficientsAsked (listed n s cells)) (rw is-coefficients at b))) e
+          (rw (le-ltb W n h, le-ltb C s g, eq-eqb (length cells) (s * n) f, le-ltb (length room) (cellsAsked n (listed n s cells)) (rw is-cells at l), either-short (coefficientsAsked (listed n s cells)) (length p) (length q) y o (rw is-coefficients at a))) e
 
       passes : k ≤ length p → k ≤ length q → refusal (numeratorChecks W C n s cells room p q) ≡ none
       passes a b =

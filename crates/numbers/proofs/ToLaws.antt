@@ -1,13 +1,23 @@
 -- to be moved
-use mathlib.Core.Path.{_≡_, refl, sym, ap, _∙_}
+use mathlib.Core.Path.{_≡_, refl, sym, ap, ap₂, _∙_}
 use mathlib.Core.Logic.{_⊎_, inl, inr}
+use mathlib.Core.Bool.{Bool, true, false, _||_}
+use lib.Dec.{ltb}
+use borrow.Author.Tests.{lt-ltb}
 use mathlib.Core.List.{List, [], _∷_, _++_}
-use Prim.Native.Nat.{ℕ, zero, suc, _+_, _*_, _-_, _^_, _≤_, _<_}
+use Prim.Native.Nat.{ℕ, zero, suc, _+_, _*_, _-_, _%_, _^_, _≤_, _<_}
 use native.Mathlib.Omega.{arith}
 use lib.ListN.{length, getD}
-use native.Mathlib.Nat.{mul-le-mul-right}
+use native.Mathlib.Nat.{le-of-eq, mul-le-mul, mul-le-mul-right, zero-mul}
+use Rattle.laws.proofs.Asked.{Lists}
+use Rattle.laws.specs.Ideal.{listed}
+use Rattle.laws.proofs.Ideal.{listed-count}
 use mir.Syntax.{w64}
-use mir.Val.{Fits}
+use lib.IntN.{ℤ, _+ℤ_, _-ℤ_}
+use mir.Val.{Fits, SFits, ofZ, toZ}
+use mir.Facts.{toZ-ofZ}
+use Rattle.laws.specs.Word.{wrap}
+use Rattle.laws.proofs.Word.{wrap-add, wrap-sub}
 use Rattle.laws.proofs.Branch.{Summed, summed-keep, summed-skip, summed-less}
 use Rattle.laws.proofs.Pass.{Thinned}
 use Rattle.laws.proofs.Rows.{Wrote, row-end}
@@ -112,3 +122,71 @@ module _ (n m v e i k : ℕ) (xs ys : List ℕ) (g : m * n + m * n ≤ length xs
 
     pub summed-behind-fits : length xs < 2 ^ 64 → Fits w64 (k * n)
     summed-behind-fits f = omega (arith, row-end n m k b)
+
+-- Word: the machine's sum and difference of signed words, step by step: their bits, the sum of these, and the word that has it
+module _ (a b r : ℤ) (p q s : ℕ) (fa : SFits w64 a) (fb : SFits w64 b) (fr : SFits w64 r) (ep : p ≡ ofZ w64 (toZ w64 (ofZ w64 a))) (eq : q ≡ ofZ w64 (toZ w64 (ofZ w64 b))) (er : r ≡ toZ w64 s) where
+  first : p ≡ ofZ w64 a
+  first = ep ∙ ap (ofZ w64) (toZ-ofZ fa)
+
+  second : q ≡ ofZ w64 b
+  second = eq ∙ ap (ofZ w64) (toZ-ofZ fb)
+
+  pub word-sum : s ≡ (p + q) % 2 ^ 64 → toZ w64 (ofZ w64 r) ≡ wrap (2 ^ 64) (a +ℤ b)
+  word-sum e = toZ-ofZ fr ∙ er ∙ ap (toZ w64) (e ∙ ap₂ (λ (x y : ℕ). (x + y) % 2 ^ 64) first second) ∙ sym (wrap-add w64 a b fa fb)
+
+  pub word-difference : s < 2 ^ 64 → (s + q) % 2 ^ 64 ≡ p → toZ w64 (ofZ w64 r) ≡ wrap (2 ^ 64) (a -ℤ b)
+  word-difference h e = toZ-ofZ fr ∙ er ∙ sym (wrap-sub w64 a b s fa fb h (ap (λ (y : ℕ). (s + y) % 2 ^ 64) (sym second) ∙ e ∙ first))
+
+-- one of two numbers that is below k
+pub either-short : (k x y z : ℕ) → (z ≡ x) ⊎ (z ≡ y) → z < k → (ltb x k || ltb y k) ≡ true
+either-short k x y z (inl e) h = rw (lt-ltb x k (rw e at h))
+either-short k x y z (inr e) h = rw (lt-ltb y k (rw e at h)) (or-true (ltb x k))
+  where
+    or-true : (b : Bool) → (b || true) ≡ true
+    or-true true = refl
+    or-true false = refl
+
+-- Asked: a list within the limits
+pub list-fits : (n s : ℕ) → n ≤ 255 → s ≤ 60 → Fits w64 (s * n)
+list-fits n s h g = omega (arith, mul-le-mul g h)
+
+pub one-list : (n s : ℕ) (xs : List ℕ) → n ≤ 255 → s ≤ 60 → length xs ≡ s * n → Lists n s xs 0 xs
+one-list n s xs h g e = record { first = le-of-eq (sym e); second = rw (zero-mul n) (omega arith); width = omega arith; count = omega arith }
+
+pub two-lists : (n s : ℕ) (xs : List ℕ) (t : ℕ) (ys : List ℕ) → n ≤ 255 → s + t ≤ 60 → length xs ≡ s * n → length ys ≡ t * n → Lists n s xs t ys
+two-lists n s xs t ys h g e f = record { first = le-of-eq (sym e); second = le-of-eq (sym f); width = omega arith; count = omega arith }
+
+pub width-small : (n : ℕ) → n ≤ 255 → n ≤ 65536
+width-small n h = omega arith
+
+pub count-within : (s : ℕ) → s ≤ 60 → s ≤ 4096
+count-within s h = omega arith
+
+pub listed-few : (n s : ℕ) (xs : List ℕ) (t : ℕ) (ys : List ℕ) → s + t ≤ 60 → length (listed n s xs) + length (listed n t ys) ≤ 60
+listed-few n s xs t ys h = omega (arith, listed-count n s xs, listed-count n t ys)
+
+-- a count of two lists, tested without their sum
+pub few-both : (s t : ℕ) → s ≤ 60 → t ≤ 60 - s → s + t ≤ 60
+few-both s t h g = omega arith
+
+pub few-second : (s t : ℕ) → t ≤ 60 - s → t ≤ 60
+few-second s t g = omega arith
+
+pub many-first : (s t : ℕ) → 60 < s → 60 < s + t
+many-first s t h = omega arith
+
+pub many-both : (s t : ℕ) → s ≤ 60 → 60 - s < t → 60 < s + t
+many-both s t h g = omega arith
+
+pub count-below : (s i t : ℕ) → i < t → s + i ≤ s + t
+count-below s i t h = omega arith
+
+pub sum-within : (s i t z : ℕ) → i < t → s + t ≤ z → s + i ≤ z
+sum-within s i t z h g = omega arith
+
+-- Dimension: a degree bound within the limit
+pub degree-fits : (d : ℕ) → d ≤ 65536 → Fits w64 (d + 1)
+degree-fits d h = omega arith
+
+pub words-fit : (d : ℕ) → d ≤ 65536 → Fits w64 (2 * (d + 1))
+words-fit d h = omega arith

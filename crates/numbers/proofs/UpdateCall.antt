@@ -5,6 +5,7 @@
 --   refuses-.., gives                              the outcomes, check by check
 use mathlib.Core.Path.{_≡_, refl, sym, ap, _∙_}
 use mathlib.Core.Bool.{Bool, true, false, not, _||_, false≢true}
+use mathlib.Core.Logic.{_⊎_}
 use mathlib.Core.List.{List, [], _∷_, _++_}
 use mathlib.Core.Option.{Option, none, some}
 use Prim.Native.Nat.{ℕ, zero, suc, _+_, _*_, _-_, _≤_, _<_}
@@ -26,6 +27,7 @@ use Rattle.monomials.specs.declared.refusal.Refusal.the-variants.{Width, Count,
 use Rattle.numbers.specs.Update.{beyond, updateChecks, updateAnswer, updateRoom, updateFirst, updateSecond}
 use Rattle.numbers.specs.declared.numerator.LengthOutcome.{LengthOutcome}
 use Rattle.numbers.specs.declared.numerator.LengthAnswer.{LengthAnswer}
+use Rattle.numbers.proofs.ToLaws.{either-short}
 
 -- check 15, coefficient by coefficient
 
@@ -90,15 +92,10 @@ module _ (W C M n : ℕ) (G : List ℤ) (s0 : ℕ) (existing : List ℕ) (s1 : �
                 (rw (le-ltb W n h, le-ltb C (s0 + s1) g, eq-eqb (length existing) (s0 * n) f, eq-eqb (length added) (s1 * n) k, o, lt-ltb (length room) (cellsAsked n (both n s0 existing s1 added)) (rw ec at l))) e
 
             module _ (l : c ≤ length room) where
-              pub refuses-first : (r : LengthAnswer) → length p < z → r ≡ record { outcome = LengthOutcome.Refused CoefficientRoom } → Outcome r room p q
-              refuses-first r a e =
+              pub refuses-coefficients : (r : LengthAnswer) (y : ℕ) → (y ≡ length p) ⊎ (y ≡ length q) → y < z → r ≡ record { outcome = LengthOutcome.Refused CoefficientRoom } → Outcome r room p q
+              refuses-coefficients r y w a e =
                   refuses CoefficientRoom r
-                  (rw (le-ltb W n h, le-ltb C (s0 + s1) g, eq-eqb (length existing) (s0 * n) f, eq-eqb (length added) (s1 * n) k, o, le-ltb (length room) (cellsAsked n (both n s0 existing s1 added)) (rw ec at l), lt-ltb (length p) (updateAsked G (both n s0 existing s1 added)) (rw ez at a))) e
-
-              pub refuses-second : (r : LengthAnswer) → z ≤ length p → length q < z → r ≡ record { outcome = LengthOutcome.Refused CoefficientRoom } → Outcome r room p q
-              refuses-second r a b e =
-                  refuses CoefficientRoom r
-                  (rw (le-ltb W n h, le-ltb C (s0 + s1) g, eq-eqb (length existing) (s0 * n) f, eq-eqb (length added) (s1 * n) k, o, le-ltb (length room) (cellsAsked n (both n s0 existing s1 added)) (rw ec at l), le-ltb (length p) (updateAsked G (both n s0 existing s1 added)) (rw ez at a), lt-ltb (length q) (updateAsked G (both n s0 existing s1 added)) (rw ez at b))) e
+                  (rw (le-ltb W n h, le-ltb C (s0 + s1) g, eq-eqb (length existing) (s0 * n) f, eq-eqb (length added) (s1 * n) k, o, le-ltb (length room) (cellsAsked n (both n s0 existing s1 added)) (rw ec at l), either-short (updateAsked G (both n s0 existing s1 added)) (length p) (length q) y w (rw ez at a))) e
 
               passes : z ≤ length p → z ≤ length q → refusal (updateChecks W C M n G s0 existing s1 added room p q) ≡ none
               passes a b =

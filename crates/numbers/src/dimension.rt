@@ -4,6 +4,7 @@ use crate::asked::cells_asked;
 use crate::asked::coefficients_asked;
 use crate::hf_at::MAX_DEGREE;
 use crate::hf_at::wipe;
+use crate::leaf::least;
 use crate::leaf::zero;
 use crate::numerator::numerator_in;
 use crate::powers::Bound;
@@ -19,17 +20,15 @@ use monomials::refusal::MAX_COUNT;
 use monomials::refusal::MAX_WIDTH;
 use monomials::refusal::Refusal;
 ghost use mathlib.Core.Path.{_≡_};
-ghost use Prim.Native.Nat.{ℕ, _+_, _<_, _≤_};
+ghost use Prim.Native.Nat.{_≤_};
 ghost use lib.IntN.{pos};
 ghost use lib.ListN.{length, replicate};
-ghost use Rattle.laws.specs.Count.{HF};
 ghost use Rattle.laws.specs.Dimension.{degreeBound, dimension as dimensionOf};
 ghost use Rattle.laws.specs.Ideal.{listed};
 ghost use Rattle.laws.specs.Room.{cellsAsked, coefficientsAsked, dimensionWords};
 ghost use Rattle.monomials.specs.Refusal.{refusal as refusalOf, after};
 ghost use Rattle.numbers.specs.Dimension.{dimensionAnswer, dimensionRoom, dimensionFirst, dimensionSecond, dimensionSums, dimensionIs, boundChecks};
 ghost use Rattle.numbers.specs.DimensionParts.{Cells, Bounded, Lent, checkedIs, roomRefusal};
-ghost use Rattle.numbers.specs.HilbertParts.{numberAt};
 ghost use Rattle.numbers.specs.Numerator.{wiped};
 ghost use Rattle.numbers.specs.Wide.{wide};
 
@@ -151,15 +150,12 @@ fn in_rooms(
     ensures { λ _. ⌜ now (second .exit) ≡ after (roomRefusal n s (now (cells .entry)) (now (room .entry)) (now (first .entry)) (now (second .entry)) (now (sums .entry))) (wiped (pos 0) (coefficientsAsked (listed n s (now (cells .entry)))) (now (second .entry))) (now (second .entry)) ⌝ }
     ensures { λ _. ⌜ now (sums .exit) ≡ after (roomRefusal n s (now (cells .entry)) (now (room .entry)) (now (first .entry)) (now (second .entry)) (now (sums .entry))) (wiped 0 (dimensionWords (degreeBound n (listed n s (now (cells .entry))))) (now (sums .entry))) (now (sums .entry)) ⌝ }
 {
-    let c = cells_asked(n, s, cells, 0, &cells[0..0]);
+    let c = cells_asked(n, s, cells, 0, cells);
     if room.len() < c {
         return refused(Refusal::CellRoom);
     }
-    let k = coefficients_asked(n, s, cells, 0, &cells[0..0]);
-    if first.len() < k {
-        return refused(Refusal::CoefficientRoom);
-    }
-    if second.len() < k {
+    let k = coefficients_asked(n, s, cells, 0, cells);
+    if least(first.len(), second.len()) < k {
         return refused(Refusal::CoefficientRoom);
     }
     let w = 2 * (d + 1);
@@ -198,30 +194,11 @@ fn dimension_in(
     ensures { λ _. ⌜ now (second .exit) ≡ replicate (length (now (second .entry))) (pos 0) ⌝ }
     ensures { λ _. ⌜ now (sums .exit) ≡ replicate (length (now (sums .entry))) 0 ⌝ }
 {
-    hilbert_values(n, s, cells, d, room, first, second, sums);
-    let r = total(d + 1, sums);
-    zero(first);
-    wipe(sums, 2 * (d + 1));
-    r
-}
-
-// HF(0), .., HF(d) in `sums`, a two-word number each; `room` and `second` are left at zero.
-pub(crate) fn hilbert_values(
-    n: usize,
-    s: usize,
-    cells: &[u16],
-    d: usize,
-    room: &mut [u16],
-    first: &mut [i64],
-    second: &mut [i64],
-    sums: &mut [u64],
-)
-    requires { ⌜ Cells n s (now cells) × Bounded n (listed n s (now cells)) d ⌝ }
-    requires { ⌜ Lent n (listed n s (now cells)) d (now room) (now first) (now second) (now sums) ⌝ }
-    ensures { λ _. ⌜ ((k : ℕ) → k < d + 1 → numberAt (now (sums .exit)) k ≡ HF (listed n s (now (cells .entry))) n k) ⌝ }
-    ensures { λ _. ⌜ now (room .exit) ≡ replicate (length (now (room .entry))) 0 ⌝ }
-    ensures { λ _. ⌜ now (second .exit) ≡ replicate (length (now (second .entry))) (pos 0) ⌝ }
-{
     numerator_in(n, s, cells, room, first, second);
-    prefix_sums(n, first, d + 1, sums);
+    let count = d + 1;
+    prefix_sums(n, first, count, sums);
+    let r = total(count, sums);
+    zero(first);
+    wipe(sums, 2 * count);
+    r
 }

@@ -1,8 +1,9 @@
 // The numerator of a list. The rooms' asked sizes are those of the list as given; after a refusal every cell holds what it held.
 use crate::asked::cells_asked;
 use crate::asked::coefficients_asked;
+use crate::coefficients::trimmed_length;
 use crate::engine::add_numerator;
-use crate::engine::trimmed;
+use crate::leaf::least;
 use crate::leaf::zero;
 use crate::masks::starting_list;
 use crate::rows::put_cells;
@@ -54,15 +55,12 @@ pub fn hilbert_numerator(
     if cells.len() != s * n {
         return refused(Refusal::Cells);
     }
-    let c = cells_asked(n, s, cells, 0, &cells[0..0]);
+    let c = cells_asked(n, s, cells, 0, cells);
     if room.len() < c {
         return refused(Refusal::CellRoom);
     }
-    let k = coefficients_asked(n, s, cells, 0, &cells[0..0]);
-    if first.len() < k {
-        return refused(Refusal::CoefficientRoom);
-    }
-    if second.len() < k {
+    let k = coefficients_asked(n, s, cells, 0, cells);
+    if least(first.len(), second.len()) < k {
         return refused(Refusal::CoefficientRoom);
     }
     let r = numerator_in(
@@ -109,5 +107,5 @@ pub(crate) fn numerator_in(
     let one = [1i64; 1];
     add_numerator(room, n, m, 0, &one, 0, first, second);
     wipe(room);
-    trimmed(first)
+    trimmed_length(first)
 }

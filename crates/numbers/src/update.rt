@@ -2,10 +2,11 @@
 // as given, and of G; after a refusal every cell holds what it held.
 use crate::asked::cells_asked;
 use crate::asked::coefficients_asked;
+use crate::coefficients::trimmed_length;
 use crate::engine::add_numerator;
-use crate::engine::trimmed;
 use crate::leaf::add_shifted;
 use crate::leaf::degree;
+use crate::leaf::least;
 use crate::leaf::zero;
 use crate::numerator::LengthAnswer;
 use crate::numerator::LengthOutcome;
@@ -76,10 +77,7 @@ pub fn add_generators(
         return refused(Refusal::CellRoom);
     }
     let k = update_asked(n, given, s0, existing, s1, added);
-    if first.len() < k {
-        return refused(Refusal::CoefficientRoom);
-    }
-    if second.len() < k {
+    if least(first.len(), second.len()) < k {
         return refused(Refusal::CoefficientRoom);
     }
     let r = update_in(
@@ -191,5 +189,5 @@ fn update_in(
     add_shifted(first, 0, given, false);
     add_each(n, s0, existing, s1, added, room, first, second);
     wipe(room);
-    trimmed(first)
+    trimmed_length(first)
 }

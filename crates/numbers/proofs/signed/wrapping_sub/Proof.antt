@@ -1,8 +1,5 @@
-use Rattle.laws.proofs.Word.{wrap-sub}
-use mir.Facts.{toZ-ofZ}
-use native.Mathlib.Omega.{arith}
-use borrow.Author.Needs.{needs, sfits-of}
-use mir.Syntax.{w64}
+use borrow.Author.Needs.{sfits-of}
+use Rattle.numbers.proofs.ToLaws.{word-difference}
 use Rattle.numbers.proofs.signed.wrapping_sub.Statement.{statement}
 use Rattle.numbers.proofs.signed.wrapping_sub.Tie as tie
 
@@ -10,11 +7,9 @@ pub wrapping-sub-spec : {M : Type 1} → statement M
 wrapping-sub-spec =
     tie.close
     (tie.spec
-    (λ c κs. search needs)
-    (λ c κs. search needs)
-    (λ c κs. search needs)
-    (λ c κs. search needs)
-    (λ c. let p = c .before .before .before .before in
-    let q = rw (c .before .before .before .to-bits .ensures, c .before .before .to-bits2 .ensures, toZ-ofZ (p .fits .a), toZ-ofZ (p .fits .b)) at (c .before .wrapping-sub-u64 .ensures) in
-    let s = wrap-sub w64 (p .args .a) (p .args .b) (c .before .wrapping-sub-u64 .result) (p .fits .a) (p .fits .b) (omega arith) q in
-    cc (s, toZ-ofZ {w = w64} (sfits-of (c .from-bits .ok)))))
+    (λ c κs. tt)
+    (λ c κs. tt)
+    (λ c κs. tt)
+    (λ c κs. tt)
+    -- returns
+    (λ c. let p1 = c .before in let p2 = p1 .before in let p3 = p2 .before in let p4 = p3 .before in word-difference (p4 .args .a) (p4 .args .b) (c .from-bits .result) (p3 .to-bits .result) (p2 .to-bits2 .result) (p1 .wrapping-sub-u64 .result) (p4 .fits .a) (p4 .fits .b) (sfits-of (c .from-bits .ok)) (p3 .to-bits .ensures) (p2 .to-bits2 .ensures) (c .from-bits .ensures) (p1 .wrapping-sub-u64 .ok) (p1 .wrapping-sub-u64 .ensures)))
