@@ -1,7 +1,7 @@
 //! Times of the bridge's calls and of picus on the same lists, in one process; docs/BENCHMARKS.md says how to run it.
 //!
 //! `bench`            every table
-//! `bench TABLE..`    some of them: numerators, small, dimensions, updates
+//! `bench TABLE..`    some of them: small, dimensions, host, updates, numerators
 //! `bench plot FILE`  the plot of time against size
 //! `bench lists`      the lists of the first table, one a line with its time and numerator; `bench lists 500` random ones
 //! `bench once KIND K` each list of a kind once by either side, for a count of instructions
@@ -120,6 +120,15 @@ fn dimensions(table: &mut Table) {
         let rust = table::rust(|| p.rust_dimension() == answer);
         table.row(&w.name, p.list.n, p.list.s, ours, rust, Asked::Times(5.0));
     }
+    for s in [14, 17, 20, 30, 40] {
+        let mut p = Prepared::of(workloads::circuit(&mut Random::of(850 + s as u64), s));
+        let ours = clock::median(|| {
+            p.dimension();
+        });
+        let answer = Some(p.dimension());
+        let rust = table::rust(|| p.rust_dimension() == answer);
+        table.row("circuit", p.list.n, p.list.s, ours, rust, Asked::Times(2.0));
+    }
 }
 
 fn updates(table: &mut Table) {
@@ -132,6 +141,32 @@ fn updates(table: &mut Table) {
         let answer = u.update().to_vec();
         let rust = table::rust(|| u.rust_update().coeffs() == answer);
         table.row(&name, u.list.n, u.list.s, ours, rust, Asked::Times(1.0));
+    }
+}
+
+/// picus has no such call: beside it stands its dimension of the list as it takes it, without reading a record.
+fn host(table: &mut Table) {
+    table.head("host call");
+    for s in 3..=10 {
+        let all = small_lists(workloads::small_artinian, 800, s);
+        let (ours, rust): (fn(&mut Prepared), fn(&Prepared)) = (
+            |p| {
+                p.host();
+            },
+            |p| {
+                p.rust_dimension();
+            },
+        );
+        small_row(table, "squares", all, ours, rust);
+    }
+    for s in [14, 17, 20] {
+        let mut p = Prepared::of(workloads::circuit(&mut Random::of(850 + s as u64), s));
+        let ours = clock::median(|| {
+            p.host();
+        });
+        let answer = Some(p.host());
+        let rust = table::rust(|| p.rust_dimension() == answer);
+        table.row("circuit", p.list.n, p.list.s, ours, rust, Asked::Times(2.0));
     }
 }
 
@@ -224,8 +259,13 @@ fn main() {
         Some("plot") => return std::fs::write(&words[1], plotted()).expect("the plot can be written"),
         _ => {}
     }
-    let tables: [(&str, fn(&mut Table)); 4] =
-        [("small", small), ("dimensions", dimensions), ("updates", updates), ("numerators", numerators)];
+    let tables: [(&str, fn(&mut Table)); 5] = [
+        ("small", small),
+        ("dimensions", dimensions),
+        ("host", host),
+        ("updates", updates),
+        ("numerators", numerators),
+    ];
     let mut table = Table::default();
     for (name, print) in tables {
         if words.is_empty() || words.iter().any(|w| w == name) {

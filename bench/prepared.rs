@@ -33,12 +33,21 @@ impl Rooms {
 pub struct Prepared {
     pub list: List,
     rooms: Rooms,
+    record: Vec<u8>,
     picus: Vec<Monomial>,
+}
+
+fn record(list: &List) -> Vec<u8> {
+    let mut bytes = vec![0; 7 + 2 * list.cells.len()];
+    let mut values: Values = [0; 4];
+    assert_eq!(bridge::write_record(list.n as u64, list.s as u64, &list.cells, &mut bytes, &mut values), 0);
+    bytes.truncate(values[0] as usize);
+    bytes
 }
 
 impl Prepared {
     pub fn of(list: List) -> Self {
-        Prepared { rooms: Rooms::of(&list, 0), picus: list.picus(), list }
+        Prepared { rooms: Rooms::of(&list, 0), record: record(&list), picus: list.picus(), list }
     }
 
     #[inline(never)]
@@ -57,6 +66,14 @@ impl Prepared {
         let number = bridge::dimension(list.n as u64, list.s as u64, &list.cells, &mut self.rooms.lent(), &mut values);
         assert_eq!(number, 0);
         (values[1] as u128) << 64 | values[0] as u128
+    }
+
+    /// The dimension by the host call, which has rooms of its own.
+    #[inline(never)]
+    pub fn host(&mut self) -> u128 {
+        let mut out = [0; 26];
+        assert_eq!(bridge::host(black_box(&self.record), &mut out), 0);
+        u128::from_be_bytes(out[6..22].try_into().expect("sixteen bytes"))
     }
 
     #[inline(never)]
