@@ -87,6 +87,36 @@ impl Prepared {
     }
 }
 
+/// A call by ours and by picus, and whether they have one answer.
+#[derive(Clone, Copy)]
+pub struct Call {
+    pub ours: fn(&mut Prepared),
+    pub rust: fn(&Prepared),
+    pub same: fn(&mut Prepared) -> bool,
+}
+
+#[rustfmt::skip]
+pub const NUMERATOR: Call = Call {
+    ours: |p| { p.numerator(); },
+    rust: |p| { p.rust_numerator(); },
+    same: |p| p.rust_numerator().coeffs() == p.numerator(),
+};
+
+#[rustfmt::skip]
+pub const DIMENSION: Call = Call {
+    ours: |p| { p.dimension(); },
+    rust: |p| { p.rust_dimension(); },
+    same: |p| p.rust_dimension() == Some(p.dimension()),
+};
+
+/// picus has no such call: beside it stands its dimension of a list that is ready, without reading a record.
+#[rustfmt::skip]
+pub const HOST: Call = Call {
+    ours: |p| { p.host(); },
+    rust: |p| { p.rust_dimension(); },
+    same: |p| p.rust_dimension() == Some(p.host()),
+};
+
 /// The last monomial of a list added to the others, whose numerator is given.
 pub struct Update {
     pub list: List,
