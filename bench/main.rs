@@ -1,7 +1,7 @@
 //! Times of the bridge's calls and of picus on the same lists, in one process; docs/BENCHMARKS.md says how to run it.
 //!
 //! `bench`            every table
-//! `bench TABLE..`    some of them: numerators, small, dimensions, updates
+//! `bench TABLE..`    some of them: small, dimensions, host, updates, numerators
 //! `bench plot FILE`  the plot of time against size
 //! `bench lists`      the lists of the first table, one a line with its time and numerator; `bench lists 500` random ones
 //! `bench once KIND K` each list of a kind once by either side, for a count of instructions
@@ -25,10 +25,12 @@ mod workloads;
 
 use list::List;
 use plot::Line;
-use prepared::{Prepared, Update};
+use prepared::{Call, Prepared, Update, DIMENSION, HOST, NUMERATOR};
 use random::Random;
-use table::Table;
+use table::{Table, LIMIT_SECONDS};
 use workloads::Asked;
+
+type Kind = fn(&mut Random, usize) -> List;
 
 /// How many small lists a row takes.
 const SMALL: usize = 500;
@@ -36,125 +38,113 @@ const SMALL: usize = 500;
 /// Seconds that picus has for a point of the plot.
 const POINT_SECONDS: i64 = 5;
 
+fn both(p: &mut Prepared, call: Call, seconds: i64) -> (f64, Option<f64>) {
+    let ours = clock::median(|| (call.ours)(p));
+    let shared = std::cell::RefCell::new(p);
+    let rust = table::rust(seconds, || (call.rust)(&shared.borrow()), || (call.same)(&mut shared.borrow_mut()));
+    (ours, rust)
+}
+
+fn row(table: &mut Table, name: &str, list: List, call: Call, asked: Asked) {
+    let mut p = Prepared::of(list);
+    let (ours, rust) = both(&mut p, call, LIMIT_SECONDS);
+    table.row(name, p.list.n, p.list.s, ours, rust, asked);
+}
+
 fn numerators(table: &mut Table) {
     table.head("numerator");
     for w in workloads::numerators() {
-        let mut p = Prepared::of(w.list);
-        let ours = clock::median(|| {
-            p.numerator();
-        });
-        let answer = p.numerator().to_vec();
-        let rust = table::rust(|| p.rust_numerator().coeffs() == answer);
-        table.row(&w.name, p.list.n, p.list.s, ours, rust, w.asked);
+        row(table, &w.name, w.list, NUMERATOR, w.asked);
     }
 }
 
-/// Nanoseconds a list, by either side.
-fn small_row(table: &mut Table, name: &str, mut all: Vec<Prepared>, ours: fn(&mut Prepared), rust: fn(&Prepared)) {
-    let count = all.len() as f64;
-    let our_time = clock::median(|| all.iter_mut().for_each(ours)) / count;
-    let rust_time = clock::median(|| all.iter().for_each(rust)) / count;
-    let n = all.iter().map(|p| p.list.n).max().unwrap_or(0);
-    table.row(name, n, all[0].list.s, our_time, Some(rust_time), Asked::Times(2.0));
-}
-
-fn small_lists(kind: fn(&mut Random, usize) -> List, seed: u64, s: usize) -> Vec<Prepared> {
+fn small_lists(kind: Kind, seed: u64, s: usize) -> Vec<Prepared> {
     let mut random = Random::of(seed + s as u64);
     (0..SMALL).map(|_| Prepared::of(kind(&mut random, s))).collect()
 }
 
+/// A row for each count from 3 to 10, the time a list.
+fn small_rows(table: &mut Table, name: &str, kind: Kind, seed: u64, call: Call, asked: Asked) {
+    for s in 3..=10 {
+        let mut all = small_lists(kind, seed, s);
+        assert!(all.iter_mut().all(call.same), "the Rust has another answer");
+        let ours = clock::median(|| all.iter_mut().for_each(call.ours)) / SMALL as f64;
+        let rust = clock::median(|| all.iter().for_each(call.rust)) / SMALL as f64;
+        let n = all.iter().map(|p| p.list.n).max().unwrap_or(0);
+        table.row(name, n, s, ours, Some(rust), asked);
+    }
+}
+
 fn small(table: &mut Table) {
     table.head("small lists");
-    for s in 3..=10 {
-        let all = small_lists(workloads::small, 700, s);
-        small_row(
-            table,
-            "numerator",
-            all,
-            |p| {
-                p.numerator();
-            },
-            |p| {
-                p.rust_numerator();
-            },
-        );
-    }
-    for s in 3..=10 {
-        let all = small_lists(workloads::small_artinian, 800, s);
-        small_row(
-            table,
-            "numerator, squares",
-            all,
-            |p| {
-                p.numerator();
-            },
-            |p| {
-                p.rust_numerator();
-            },
-        );
-    }
-    for s in 3..=10 {
-        let all = small_lists(workloads::small_artinian, 800, s);
-        small_row(
-            table,
-            "dimension, squares",
-            all,
-            |p| {
-                p.dimension();
-            },
-            |p| {
-                p.rust_dimension();
-            },
-        );
-    }
+    small_rows(table, "numerator", workloads::small, 700, NUMERATOR, Asked::Times(2.0));
+    small_rows(table, "numerator, squares", workloads::small_artinian, 800, NUMERATOR, Asked::Times(2.0));
+    small_rows(table, "dimension, squares", workloads::small_artinian, 800, DIMENSION, Asked::Times(2.0));
+    small_rows(table, "numerator, wide", workloads::wide, 750, NUMERATOR, Asked::Nothing);
 }
 
 fn dimensions(table: &mut Table) {
     table.head("dimension");
     for w in workloads::numerators().into_iter().filter(|w| w.name.starts_with('a')) {
-        let mut p = Prepared::of(w.list);
-        let ours = clock::median(|| {
-            p.dimension();
-        });
-        let answer = Some(p.dimension());
-        let rust = table::rust(|| p.rust_dimension() == answer);
-        table.row(&w.name, p.list.n, p.list.s, ours, rust, Asked::Times(5.0));
+        row(table, &w.name, w.list, DIMENSION, w.asked);
+    }
+    for s in [14, 17, 20, 30, 40] {
+        row(table, "circuit", workloads::circuit(&mut Random::of(850 + s as u64), s), DIMENSION, Asked::Times(2.0));
+    }
+}
+
+fn host(table: &mut Table) {
+    table.head("host call");
+    small_rows(table, "squares", workloads::small_artinian, 800, HOST, Asked::Nothing);
+    for s in [14, 17, 20] {
+        row(table, "circuit", workloads::circuit(&mut Random::of(850 + s as u64), s), HOST, Asked::Nothing);
     }
 }
 
 fn updates(table: &mut Table) {
-    table.head("update, 40 and 1");
+    table.head("update");
     for (name, list) in workloads::updates() {
         let mut u = Update::of(list);
         let ours = clock::median(|| {
             u.update();
         });
         let answer = u.update().to_vec();
-        let rust = table::rust(|| u.rust_update().coeffs() == answer);
+        let rust = table::rust(
+            LIMIT_SECONDS,
+            || {
+                u.rust_update();
+            },
+            || u.rust_update().coeffs() == answer,
+        );
         table.row(&name, u.list.n, u.list.s, ours, rust, Asked::Times(1.0));
     }
 }
 
-/// Both times for lists of one kind and size: the median of three lists. None for picus from the first that it does not end on.
-fn point(kind: fn(&mut Random, usize) -> List, s: usize, with_rust: bool) -> (f64, Option<f64>) {
-    let mut ours = Vec::new();
-    let mut rust = Vec::new();
+fn middle(mut times: Vec<f64>) -> f64 {
+    times.sort_by(f64::total_cmp);
+    times[times.len() / 2]
+}
+
+/// Both times for lists of one kind and size, each the median of three lists; none for picus where it does not end on one of them.
+fn point(kind: Kind, s: usize, with_rust: bool) -> (f64, Option<f64>) {
+    let (mut ours, mut rust) = (Vec::new(), Vec::new());
     for k in 0..3 {
         let mut p = Prepared::of(kind(&mut Random::of(2000 + k), s));
-        ours.push(clock::median(|| {
-            p.numerator();
-        }));
-        if with_rust && rust.len() == k as usize {
-            rust.extend(table::rust_within(POINT_SECONDS, || !p.rust_numerator().coeffs().is_empty()));
+        let seconds = if with_rust && rust.len() == ours.len() { POINT_SECONDS } else { 0 };
+        if seconds > 0 {
+            let (our_time, rust_time) = both(&mut p, NUMERATOR, seconds);
+            ours.push(our_time);
+            rust.extend(rust_time);
+        } else {
+            ours.push(clock::median(|| (NUMERATOR.ours)(&mut p)));
         }
     }
-    ours.sort_by(f64::total_cmp);
-    rust.sort_by(f64::total_cmp);
-    (ours[1], (rust.len() == 3).then(|| rust[1]))
+    let rust = (rust.len() == 3).then(|| middle(rust));
+    (middle(ours), rust)
 }
 
 fn plotted() -> String {
-    let kinds: [(&str, &str, fn(&mut Random, usize) -> List); 4] = [
+    let kinds: [(&str, &str, Kind); 4] = [
         ("b: n = 20, products", "#1b6ca8", workloads::products),
         ("c: n = 10, generic", "#c0392b", workloads::generic),
         ("d: n = 30, edges", "#27803b", workloads::edges),
@@ -200,6 +190,9 @@ fn once(kind: &str, k: usize) {
         "small" => small_lists(workloads::small, 700, k).iter_mut().for_each(|p| {
             assert_eq!(p.numerator().to_vec(), p.rust_numerator().coeffs());
         }),
+        "wide" => small_lists(workloads::wide, 750, k).iter_mut().for_each(|p| {
+            assert_eq!(p.numerator().to_vec(), p.rust_numerator().coeffs());
+        }),
         "squares" => small_lists(workloads::small_artinian, 800, k).iter_mut().for_each(|p| {
             assert_eq!(Some(p.dimension()), p.rust_dimension());
         }),
@@ -224,8 +217,13 @@ fn main() {
         Some("plot") => return std::fs::write(&words[1], plotted()).expect("the plot can be written"),
         _ => {}
     }
-    let tables: [(&str, fn(&mut Table)); 4] =
-        [("small", small), ("dimensions", dimensions), ("updates", updates), ("numerators", numerators)];
+    let tables: [(&str, fn(&mut Table)); 5] = [
+        ("small", small),
+        ("dimensions", dimensions),
+        ("host", host),
+        ("updates", updates),
+        ("numerators", numerators),
+    ];
     let mut table = Table::default();
     for (name, print) in tables {
         if words.is_empty() || words.iter().any(|w| w == name) {

@@ -33,12 +33,21 @@ impl Rooms {
 pub struct Prepared {
     pub list: List,
     rooms: Rooms,
+    record: Vec<u8>,
     picus: Vec<Monomial>,
+}
+
+fn record(list: &List) -> Vec<u8> {
+    let mut bytes = vec![0; 7 + 2 * list.cells.len()];
+    let mut values: Values = [0; 4];
+    assert_eq!(bridge::write_record(list.n as u64, list.s as u64, &list.cells, &mut bytes, &mut values), 0);
+    bytes.truncate(values[0] as usize);
+    bytes
 }
 
 impl Prepared {
     pub fn of(list: List) -> Self {
-        Prepared { rooms: Rooms::of(&list, 0), picus: list.picus(), list }
+        Prepared { rooms: Rooms::of(&list, 0), record: record(&list), picus: list.picus(), list }
     }
 
     #[inline(never)]
@@ -59,6 +68,14 @@ impl Prepared {
         (values[1] as u128) << 64 | values[0] as u128
     }
 
+    /// The dimension by the host call, which has rooms of its own.
+    #[inline(never)]
+    pub fn host(&mut self) -> u128 {
+        let mut out = [0; 26];
+        assert_eq!(bridge::host(black_box(&self.record), &mut out), 0);
+        u128::from_be_bytes(out[6..22].try_into().expect("sixteen bytes"))
+    }
+
     #[inline(never)]
     pub fn rust_numerator(&self) -> HilbertNum {
         hilbert_numerator(black_box(&self.picus))
@@ -69,6 +86,36 @@ impl Prepared {
         quotient_dimension(black_box(&self.picus), self.list.n)
     }
 }
+
+/// A call by ours and by picus, and whether they have one answer.
+#[derive(Clone, Copy)]
+pub struct Call {
+    pub ours: fn(&mut Prepared),
+    pub rust: fn(&Prepared),
+    pub same: fn(&mut Prepared) -> bool,
+}
+
+#[rustfmt::skip]
+pub const NUMERATOR: Call = Call {
+    ours: |p| { p.numerator(); },
+    rust: |p| { p.rust_numerator(); },
+    same: |p| p.rust_numerator().coeffs() == p.numerator(),
+};
+
+#[rustfmt::skip]
+pub const DIMENSION: Call = Call {
+    ours: |p| { p.dimension(); },
+    rust: |p| { p.rust_dimension(); },
+    same: |p| p.rust_dimension() == Some(p.dimension()),
+};
+
+/// picus has no such call: beside it stands its dimension of a list that is ready, without reading a record.
+#[rustfmt::skip]
+pub const HOST: Call = Call {
+    ours: |p| { p.host(); },
+    rust: |p| { p.rust_dimension(); },
+    same: |p| p.rust_dimension() == Some(p.host()),
+};
 
 /// The last monomial of a list added to the others, whose numerator is given.
 pub struct Update {

@@ -10,6 +10,8 @@ pub enum Asked {
     Times(f64),
     /// At most so many milliseconds.
     Milliseconds(f64),
+    /// Shown only.
+    Nothing,
 }
 
 /// A list, and what its time is held to.
@@ -104,6 +106,13 @@ pub fn small_artinian(random: &mut Random, s: usize) -> List {
     all.extend((n..s).map(|_| square_free(random, n, 2, 2)));
     random.shuffle(&mut all);
     List::of(n, &all)
+}
+
+/// The squares of 12 variables and products of two or three, s monomials in all: as much as the host call's rooms take.
+pub fn circuit(random: &mut Random, s: usize) -> List {
+    let mut all: Vec<Vec<u16>> = (0..12).map(|v| spread(12, &[v], |_| 2)).collect();
+    all.extend((12..s).map(|_| square_free(random, 12, 2, 3)));
+    List::of(12, &all)
 }
 
 /// Lists of any of these kinds, where every system ends soon.
