@@ -80,6 +80,7 @@ fn small(table: &mut Table) {
     small_rows(table, "numerator", workloads::small, 700, NUMERATOR, Asked::Times(2.0));
     small_rows(table, "numerator, squares", workloads::small_artinian, 800, NUMERATOR, Asked::Times(2.0));
     small_rows(table, "dimension, squares", workloads::small_artinian, 800, DIMENSION, Asked::Times(2.0));
+    small_rows(table, "numerator, edges", workloads::edges, 730, NUMERATOR, Asked::Times(2.0));
     small_rows(table, "numerator, wide", workloads::wide, 750, NUMERATOR, Asked::Nothing);
 }
 
@@ -188,6 +189,9 @@ fn lists(random_ones: usize) {
 fn once(kind: &str, k: usize) {
     match kind {
         "small" => small_lists(workloads::small, 700, k).iter_mut().for_each(|p| {
+            assert_eq!(p.numerator().to_vec(), p.rust_numerator().coeffs());
+        }),
+        "edges" => small_lists(workloads::edges, 730, k).iter_mut().for_each(|p| {
             assert_eq!(p.numerator().to_vec(), p.rust_numerator().coeffs());
         }),
         "wide" => small_lists(workloads::wide, 750, k).iter_mut().for_each(|p| {
