@@ -85,10 +85,14 @@ fn is_pair_right(code: u64, text: &[u8], at: usize) -> bool {
     let next = put_cells(text, second, &mut b);
     let n = at_most(first.count, 300);
     let m = at_most(second.count, 300);
+    is_pair_given(code, &a[0..n], &b[0..m], text, next)
+}
+
+fn is_pair_given(code: u64, a: &[u16], b: &[u16], text: &[u8], at: usize) -> bool {
     if code < 8 {
-        return is_write_right(code, &a[0..n], &b[0..m], text, next);
+        return is_write_right(code, a, b, text, at);
     }
-    is_answer(text, next, pair_told(code, &a[0..n], &b[0..m]))
+    is_answer(text, at, pair_told(code, a, b))
 }
 
 fn is_write_right(code: u64, a: &[u16], b: &[u16], text: &[u8], at: usize) -> bool {

@@ -1,6 +1,4 @@
 // The call of one case, held against the number, the coefficients and the rooms that the case gives.
-ghost use Prim.Native.Nat.{_+_, _≤_};
-ghost use lib.ListN.{length};
 use monomials::refusal::number_of;
 use numbers::numerator::LengthAnswer;
 use numbers::numerator::LengthOutcome;
@@ -10,6 +8,7 @@ use vectors::asked::cells_asked;
 use vectors::rooms::Contents;
 use vectors::rooms::are_cells;
 use vectors::rooms::are_coefficients;
+use vectors::rooms::at_most;
 use vectors::rooms::list_at;
 use vectors::rooms::put_cells;
 use vectors::rooms::put_coefficients;
@@ -19,21 +18,19 @@ use vectors::told::done;
 use vectors::told::output_at;
 use vectors::told::refused;
 
-// What a case gives: numbers, how much of the slices is given, and the place after it. The new list's cells stand behind the existing one's.
-pub struct Given {
+// Two lists of width n in cells: s0 monomials in the first `existing` cells, and s1 in those after them, up to `all`.
+pub struct Lists {
     pub n: usize,
-    pub coeffs: usize,
     pub s0: usize,
-    pub cells: usize,
     pub s1: usize,
-    pub added: usize,
-    pub next: usize,
+    pub existing: usize,
+    pub all: usize,
 }
 
-// Whether the call, on the rooms as lent, does what the case says at `at`.
+// Whether the call, on the rooms as lent, does what the case says at `at`. A numerator is of the first list alone.
 pub fn is_call_right(
     code: u64,
-    given: Given,
+    lists: Lists,
     coeffs: &[i64],
     cells: &[u16],
     room: &mut [u16],
@@ -41,12 +38,11 @@ pub fn is_call_right(
     second: &mut [i64],
     text: &[u8],
     at: usize,
-) -> bool
-    requires { ⌜ (given .coeffs ≤ length (now coeffs)) × (given .cells + given .added ≤ length (now cells)) ⌝ }
-{
-    let asked = asked_of(given, cells);
+) -> bool {
     prepare(room, first, second, text);
-    let told = told_by(call(code, given, coeffs, cells, room, first, second));
+    let told = told_by(call(code, lists, coeffs, cells, room, first, second));
+    let s = std::num::wrapping_add_usize(lists.s0, lists.s1);
+    let asked = cells_asked(lists.n, s, cells);
     is_settled(told, asked, room, first, second, text, at)
 }
 
@@ -58,40 +54,28 @@ fn prepare(room: &mut [u16], first: &mut [i64], second: &mut [i64], text: &[u8])
 
 fn call(
     code: u64,
-    given: Given,
+    lists: Lists,
     coeffs: &[i64],
     cells: &[u16],
     room: &mut [u16],
     first: &mut [i64],
     second: &mut [i64],
-) -> LengthAnswer
-    requires { ⌜ (given .coeffs ≤ length (now coeffs)) × (given .cells + given .added ≤ length (now cells)) ⌝ }
-{
-    let g = given.coeffs;
-    let m = given.cells;
-    let e = given.cells + given.added;
+) -> LengthAnswer {
     if code == 21 {
-        return hilbert_numerator(given.n, given.s0, &cells[0..m], room, first, second);
+        return hilbert_numerator(lists.n, lists.s0, cells, room, first, second);
     }
+    let m = at_most(lists.existing as u64, cells.len());
     add_generators(
-        given.n,
-        &coeffs[0..g],
-        given.s0,
+        lists.n,
+        coeffs,
+        lists.s0,
         &cells[0..m],
-        given.s1,
-        &cells[m..e],
+        lists.s1,
+        &cells[m..],
         room,
         first,
         second,
     )
-}
-
-fn asked_of(given: Given, cells: &[u16]) -> u64
-    requires { ⌜ given .cells + given .added ≤ length (now cells) ⌝ }
-{
-    let s = std::num::wrapping_add_usize(given.s0, given.s1);
-    let e = given.cells + given.added;
-    cells_asked(given.n, s, &cells[0..e])
 }
 
 fn told_by(answer: LengthAnswer) -> Told {

@@ -1,9 +1,7 @@
 // The arguments of one case, read into slices, and the rooms that it lends. A case that is larger than these slices is wrong.
-ghost use mathlib.Core.Path.{_≡_};
-ghost use Prim.Native.Nat.{_+_, _≤_};
-ghost use lib.ListN.{length};
-use crate::calls::Given;
+use crate::calls::Lists;
 use crate::calls::is_call_right;
+use vectors::rooms::Contents;
 use vectors::rooms::at_most;
 use vectors::rooms::list_at;
 use vectors::rooms::put_cells;
@@ -11,133 +9,119 @@ use vectors::rooms::put_coefficients;
 
 // Whether the call does what the case says, whose arguments start at `at`.
 pub fn is_right(code: u64, text: &[u8], at: usize) -> bool {
-    if code != 21 && code != 22 {
-        return false;
+    match code {
+        21 => is_numerator_right(text, at),
+        22 => is_update_right(text, at),
+        _ => false,
     }
-    let mut coeffs = [0i64; 9002];
+}
+
+fn is_numerator_right(text: &[u8], at: usize) -> bool {
+    let n = vectors::integer_at(text, at);
+    let s = vectors::integer_at(text, n.next);
+    let list = list_at(text, s.next);
     let mut cells = [0u16; 15300];
-    let given = read(code, text, at, &mut coeffs, &mut cells);
+    let next = put_cells(text, list, &mut cells);
+    let m = at_most(list.count, 15300);
+    let lists = Lists {
+        n: n.magnitude as usize,
+        s0: s.magnitude as usize,
+        s1: 0,
+        existing: m,
+        all: m,
+    };
+    let none = [0i64; 0];
+    is_given(21, lists, &none, &cells, text, next)
+}
+
+fn is_update_right(text: &[u8], at: usize) -> bool {
+    let n = vectors::integer_at(text, at);
+    let list = list_at(text, n.next);
+    let mut coeffs = [0i64; 9002];
+    let next = put_coefficients(text, list, &mut coeffs);
+    let g = at_most(list.count, 9002);
+    is_update_listed(n.magnitude as usize, &coeffs[0..g], text, next)
+}
+
+// The same with the lists at `at`, the new one's cells behind those of the existing one.
+fn is_update_listed(n: usize, coeffs: &[i64], text: &[u8], at: usize) -> bool {
+    let s0 = vectors::integer_at(text, at);
+    let existing = list_at(text, s0.next);
+    let mut cells = [0u16; 15300];
+    let s1 = vectors::integer_at(text, put_cells(text, existing, &mut cells));
+    let added = list_at(text, s1.next);
+    let m = at_most(existing.count, 15300);
+    let next = put_behind(text, added, m, &mut cells);
+    let lists = Lists {
+        n,
+        s0: s0.magnitude as usize,
+        s1: s1.magnitude as usize,
+        existing: m,
+        all: m + at_most(added.count, 15300 - m),
+    };
+    is_given(22, lists, coeffs, &cells, text, next)
+}
+
+// Fills the cells from m on, and answers the place after the integers.
+fn put_behind(text: &[u8], contents: Contents, m: usize, cells: &mut [u16]) -> usize {
+    let k = at_most(m as u64, cells.len());
+    put_cells(text, contents, &mut cells[k..])
+}
+
+// The call on the cells that are given, with rooms for any case.
+fn is_given(
+    code: u64,
+    lists: Lists,
+    coeffs: &[i64],
+    cells: &[u16],
+    text: &[u8],
+    at: usize,
+) -> bool {
+    let e = at_most(lists.all as u64, cells.len());
     let mut room = [0u16; 1101600];
     let mut first = [0i64; 65540];
     let mut second = [0i64; 65540];
-    is_given(
+    is_roomed(
         code,
-        given,
-        &coeffs,
-        &cells,
+        lists,
+        coeffs,
+        &cells[0..e],
         &mut room,
         &mut first,
         &mut second,
         text,
+        at,
     )
 }
 
-fn read(code: u64, text: &[u8], at: usize, coeffs: &mut [i64], cells: &mut [u16]) -> Given
-    ensures { λ r. ⌜ (r .coeffs ≤ length (now (coeffs .exit))) × (r .cells + r .added ≤ length (now (cells .exit))) ⌝ }
-{
-    if code == 21 {
-        read_list(text, at, cells)
-    } else {
-        read_lists(text, at, coeffs, cells)
-    }
-}
-
-// The arguments of a numerator: it has no coefficients, and no second list.
-fn read_list(text: &[u8], at: usize, cells: &mut [u16]) -> Given
-    ensures { λ r. ⌜ (r .coeffs ≡ 0) × (r .cells + r .added ≤ length (now (cells .exit))) ⌝ }
-{
-    let n = vectors::integer_at(text, at);
-    read_list_at(text, n.next, n.magnitude as usize, cells)
-}
-
-// A list of width n, its count first.
-fn read_list_at(text: &[u8], at: usize, n: usize, cells: &mut [u16]) -> Given
-    ensures { λ r. ⌜ (r .coeffs ≡ 0) × (r .cells + r .added ≤ length (now (cells .exit))) ⌝ }
-{
-    let s = vectors::integer_at(text, at);
-    let list = list_at(text, s.next);
-    let next = put_cells(text, list, cells);
-    Given {
-        n,
-        coeffs: 0,
-        s0: s.magnitude as usize,
-        cells: at_most(list.count, cells.len()),
-        s1: 0,
-        added: 0,
-        next,
-    }
-}
-
-// The arguments of an update.
-fn read_lists(text: &[u8], at: usize, coeffs: &mut [i64], cells: &mut [u16]) -> Given
-    ensures { λ r. ⌜ (r .coeffs ≤ length (now (coeffs .exit))) × (r .cells + r .added ≤ length (now (cells .exit))) ⌝ }
-{
-    let n = vectors::integer_at(text, at);
-    let list = list_at(text, n.next);
-    let next = put_coefficients(text, list, coeffs);
-    let existing = read_list_at(text, next, n.magnitude as usize, cells);
-    let given = Given {
-        n: existing.n,
-        coeffs: at_most(list.count, coeffs.len()),
-        s0: existing.s0,
-        cells: existing.cells,
-        s1: 0,
-        added: 0,
-        next: existing.next,
-    };
-    read_added(text, given, cells)
-}
-
-// The same with the second list that follows it, its cells behind those of the first.
-fn read_added(text: &[u8], given: Given, cells: &mut [u16]) -> Given
-    requires { ⌜ given .cells ≤ length (now cells) ⌝ }
-    ensures { λ r. ⌜ (r .coeffs ≡ given .coeffs) × (r .cells + r .added ≤ length (now (cells .exit))) ⌝ }
-{
-    let s = vectors::integer_at(text, given.next);
-    let list = list_at(text, s.next);
-    let m = given.cells;
-    let next = put_cells(text, list, &mut cells[m..]);
-    Given {
-        n: given.n,
-        coeffs: given.coeffs,
-        s0: given.s0,
-        cells: m,
-        s1: s.magnitude as usize,
-        added: at_most(list.count, cells.len() - m),
-        next,
-    }
-}
-
 // The exponent room comes as an array, so that its length is known and not counted.
-fn is_given(
+fn is_roomed(
     code: u64,
-    given: Given,
+    lists: Lists,
     coeffs: &[i64],
     cells: &[u16],
     room: &mut [u16; 1101600],
     first: &mut [i64],
     second: &mut [i64],
     text: &[u8],
-) -> bool
-    requires { ⌜ (given .coeffs ≤ length (now coeffs)) × (given .cells + given .added ≤ length (now cells)) ⌝ }
-{
-    is_lent(code, given, coeffs, cells, room, first, second, text)
+    at: usize,
+) -> bool {
+    is_lent(code, lists, coeffs, cells, room, first, second, text, at)
 }
 
-// The call with the rooms that the case lends.
+// The call with the rooms that the case lends, whose sizes are at `at`.
 fn is_lent(
     code: u64,
-    given: Given,
+    lists: Lists,
     coeffs: &[i64],
     cells: &[u16],
     room: &mut [u16],
     first: &mut [i64],
     second: &mut [i64],
     text: &[u8],
-) -> bool
-    requires { ⌜ (given .coeffs ≤ length (now coeffs)) × (given .cells + given .added ≤ length (now cells)) ⌝ }
-{
-    let a = vectors::integer_at(text, given.next);
+    at: usize,
+) -> bool {
+    let a = vectors::integer_at(text, at);
     let b = vectors::integer_at(text, a.next);
     let c = vectors::integer_at(text, b.next);
     let i = at_most(a.magnitude, room.len());
@@ -148,7 +132,7 @@ fn is_lent(
     }
     is_call_right(
         code,
-        given,
+        lists,
         coeffs,
         cells,
         &mut room[0..i],

@@ -1,19 +1,17 @@
 -- Counts and cells, one by one.
---   total-next, total-none       what is left to add, at one count more and at the end
---   spaced-next, spaced-none     the next cell of a variable, if there is one
---   held-here, held-later        whether a number stands in the cells of a variable: in this one, or in those after it
---   greatest-later, greatest-none   the greatest of the cells of a variable, one by one
---   pairs-next, pairs-none       how many pairs are left
---   above-next, above-none       what is left of the degree
+--   total-next, total-none               what is left to add, at one count more and at the end
+--   held-here, held-later, held-none     whether a number stands in the cells of a variable: in this one, in those after it, or there are none
+--   greatest-later, greatest-none        the greatest of the cells of a variable
+--   above-next, above-none               what is left of the degree of the lcm
+--   pairs-next, pairs-none               how many pairs are left
 -- Assumes nothing.
-use mathlib.Core.Path.{_≡_, refl, sym, ap, _∙_}
+use mathlib.Core.Path.{_≡_, refl, ap, _∙_}
 use mathlib.Core.Bool.{Bool, true, false, cond, _||_}
 use mathlib.Core.List.{List, [], _∷_}
 use Prim.Native.Nat.{ℕ, zero, suc, _+_, _-_, _%_, _^_, _≤_, _<_, max}
 use native.Mathlib.Omega.{arith}
-use native.Mathlib.Numerals.{add-one}
 use lib.Dec.{eqb}
-use lib.ListN.{length, getD, drop, length-drop, drop-of-length-le}
+use lib.ListN.{length, getD, drop, drop-of-length-le}
 use lib.Seq.{drop-drop}
 use borrow.Author.Tests.{eq-eqb, ne-eqb}
 use Rattle.laws.specs.Room.{holds}

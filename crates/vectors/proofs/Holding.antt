@@ -16,7 +16,7 @@ use lib.ListN.{length, getD, drop, set, length-append, length-set, drop-of-lengt
 use lib.Seq.{drop-cons, set-at}
 use borrow.Author.Tests.{lt-ltb, le-ltb}
 use Rattle.vectors.specs.Text.{integerAt}
-use Rattle.vectors.specs.Rooms.{bitsOf, placeAfter, placeIn, wanted, listOf, every, compared}
+use Rattle.vectors.specs.Rooms.{bitsOf, placeIn, wanted, listOf, every, compared}
 use Rattle.vectors.specs.declared.rooms.Contents.{Contents}
 use Rattle.vectors.specs.declared.rooms.Compared.{Compared}
 

@@ -5,17 +5,17 @@
 --   end-more, end-here, end-none        where the number ends
 --   line-more, line-here, line-none     where the line ends
 -- Assumes nothing.
-use mathlib.Core.Path.{_≡_, refl, sym, ap, _∙_}
-use mathlib.Core.Bool.{Bool, true, false, cond}
+use mathlib.Core.Path.{_≡_, refl, sym}
+use mathlib.Core.Bool.{Bool, true, false}
 use mathlib.Core.List.{List, [], _∷_}
-use Prim.Native.Nat.{ℕ, suc, _+_, _*_, _-_, _≤_, _<_, min}
+use Prim.Native.Nat.{ℕ, _+_, _*_, _-_, _≤_, _<_, min}
 use native.Mathlib.Omega.{arith}
-use lib.Dec.{leb, eqb}
+use lib.Dec.{leb}
 use lib.ListN.{length, getD, drop, length-drop, drop-of-length-le, List·getD-eq-default}
 use borrow.Author.Tests.{leb-true, leb-false, eqb-true, eq-eqb, ne-eqb}
 use Rattle.laws.proofs.Lists.{drop-next}
 use Rattle.laws.proofs.Monomial.{and-left, and-right}
-use Rattle.vectors.specs.Text.{largest, isDigit, isMinus, digits, valueOf, endOf, lineLength, lineAfter}
+use Rattle.vectors.specs.Text.{largest, isDigit, isMinus, digits, valueOf, endOf, lineAfter}
 
 pub minus-inside : (s : List ℕ) (at : ℕ) → isMinus s at ≡ true → at < length s
 minus-inside s at h = go (leb (length s) at) refl

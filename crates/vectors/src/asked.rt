@@ -1,7 +1,7 @@
 // The exponent cells and the coefficients that a list asks for, found another way than the calls find them: by going over the cells as they lie.
 ghost use mathlib.Core.Bool.{_||_, cond};
 ghost use mathlib.Core.Path.{_≡_};
-ghost use Prim.Native.Nat.{suc, _+_, _-_, _<_, _≤_, max};
+ghost use Prim.Native.Nat.{_+_, _-_, _<_, _≤_, max};
 ghost use lib.Dec.{eqb};
 ghost use lib.ListN.{length, getD, drop};
 ghost use Rattle.laws.specs.Room.{holds};

@@ -6,7 +6,7 @@ pub mod told;
 
 ghost use mathlib.Core.Path.{_≡_};
 ghost use Prim.Native.Nat.{_+_, _*_, _-_, _≤_, _<_, min};
-ghost use lib.ListN.{length, getD, drop};
+ghost use lib.ListN.{drop};
 ghost use Rattle.vectors.specs.Text.{largest, isDigit, isMinus, magnitudeOf, endOf, integerAt, lineAfter, lineEnded};
 
 pub struct Integer {

@@ -1,12 +1,11 @@
 // Slices of cells, coefficients, words and bytes that a case gives or lends: filled before a call, and compared after it.
-ghost use mathlib.Core.Bool.{Bool, cond, _&&_};
-ghost use mathlib.Core.List.{List, map};
+ghost use mathlib.Core.Bool.{cond, _&&_};
+ghost use mathlib.Core.List.{map};
 ghost use mathlib.Core.Path.{_≡_};
 ghost use Prim.Native.Nat.{_+_, _%_, _^_, min};
 ghost use lib.Dec.{leb, ltb, eqb};
-ghost use lib.IntN.{ℤ};
 ghost use lib.ListN.{length};
-ghost use mir.Val.{toZ, ofZ};
+ghost use mir.Val.{ofZ};
 ghost use mir.Syntax.{w64};
 ghost use Rattle.vectors.specs.Rooms.{bitsOf, placeIn, wanted, byteAt, cellAt, wordAt, coefficientAt, listOf, listAt, wiped as wipedBy, compared};
 use crate::Integer;

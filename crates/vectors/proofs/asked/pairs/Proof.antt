@@ -1,7 +1,7 @@
 -- `pairs` meets its contract: those found and those left are all pairs. Rests on `pairs-next`.
 use borrow.Author.Needs.{needs}
 use native.Mathlib.Omega.{arith}
-use mathlib.Core.Path.{_≡_, refl}
+use mathlib.Core.Path.{_≡_}
 use Prim.Native.Nat.{_+_, _-_, _≤_}
 use lib.ListN.{length, drop}
 use Rattle.vectors.specs.Asked.{pairsIn}

@@ -1,4 +1,3 @@
-use borrow.Author.Needs.{needs}
 use Rattle.vectors.proofs.rooms.agree.Statement.{statement}
 use Rattle.vectors.proofs.rooms.agree.Tie as tie
 

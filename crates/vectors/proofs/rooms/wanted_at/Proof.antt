@@ -1,7 +1,7 @@
 -- `wanted_at` meets its contract: by whether element j is an integer of the text.
 use borrow.Author.Needs.{needs}
 use native.Mathlib.Omega.{arith}
-use mathlib.Core.Path.{_≡_, sym, ap, _∙_}
+use mathlib.Core.Path.{sym, ap, _∙_}
 use Rattle.vectors.specs.Text.{integerAt}
 use Rattle.vectors.specs.Rooms.{bitsOf}
 use Rattle.vectors.proofs.Holding.{wanted-integer, wanted-left, place-more, place-same}
