@@ -1,4 +1,4 @@
--- to be moved
+-- What one turn of a pass, a branch or a count leaves, over plain numbers and lists: laws for the proofs of the functions that loop.
 use mathlib.Core.Path.{_≡_, refl, sym, ap, ap₂, _∙_}
 use mathlib.Core.Logic.{_⊎_, inl, inr}
 use mathlib.Core.Bool.{Bool, true, false, _||_}
