@@ -7,6 +7,7 @@ mod Capped
 mod Numbers
 mod Settled
 mod MaskArray
+mod HilbertCall
 mod NumeratorCall
 mod UpdateCall
 mod LeastPowers

@@ -1,14 +1,13 @@
 -- Lists of two-word numbers, two words each, one of which is written; and what stands past them. Assumes nothing.
 use mathlib.Core.Path.{_≡_, sym, ap, ap₂, _∙_}
 use mathlib.Core.Logic.{_≢_}
-use mathlib.Core.List.{List}
+use mathlib.Core.List.{List, _++_}
 use Prim.Native.Nat.{ℕ, suc, _+_, _*_, _-_, _^_, _<_, _≤_, suc-le-suc}
 use native.Mathlib.Nat.{le-trans, min-le-right}
 use native.Mathlib.Omega.{arith}
 use lib.Dec.{lit≤}
-use lib.ListN.{length, getD, set, drop, length-set, length-append, length-drop}
-use lib.Seq.{getD-set-same, getD-set-other, drop-drop}
-use borrow.Rule.Slice.PartMut.{putMid, drop-put}
+use lib.ListN.{length, getD, set, drop, length-set}
+use lib.Seq.{getD-set-same, getD-set-other, drop-append-add, drop-drop}
 use borrow.Author.Count.{below-more}
 use Rattle.laws.specs.Word.{pair}
 use Rattle.laws.specs.Sums.{sumBelow}
@@ -52,15 +51,9 @@ total-more f k t x r a b e =
     let m : capped (value t + value x) ≡ capped (sumBelow (suc k) f) = rw (a, b) (capped-more (2 ^ 127) (sumBelow k f) (f k)) in
     rw (e, m) (value-exact (capped (sumBelow (suc k) f)) (le-trans (suc-le-suc (min-le-right (sumBelow (suc k) f) (2 ^ 127))) (lit≤ tt)))
 
--- two parts of a list, one after the other, leave what stands past them
-pub past-parts : (xs ys zs : List ℕ) (h e : ℕ) → h ≤ e → e ≤ length xs → length ys ≡ h → length zs ≡ e - h → drop e (putMid h (e - h) (putMid 0 (h - 0) xs ys) zs) ≡ drop e xs
-past-parts xs ys zs h e k l m n =
-    drop-put h e (putMid 0 (h - 0) xs ys) zs k (simp (length-append, length-drop) (omega arith)) n
-    ∙ shift (putMid 0 (h - 0) xs ys)
-    ∙ ap (drop (e - h)) (drop-put 0 h xs ys (omega arith) (omega arith) (omega arith))
-    ∙ sym (shift xs)
-  where
-    shift : (l : List ℕ) → drop e l ≡ drop (e - h) (drop h l)
-    shift l =
-        let q : h + (e - h) ≡ e = omega arith in
-        rw (drop-drop, q)
+-- a front that was lent leaves what stands past it
+pub past-front : (xs ys : List ℕ) (h e : ℕ) → h ≤ e → length ys ≡ h → drop e (ys ++ drop h xs) ≡ drop e xs
+past-front xs ys h e k l =
+    let q : length ys + (e - h) ≡ e = omega arith in
+    let r : h + (e - h) ≡ e = omega arith in
+    ap (λ (j : ℕ). drop j (ys ++ drop h xs)) (sym q) ∙ drop-append-add ys (drop h xs) (e - h) ∙ drop-drop (e - h) h xs ∙ ap (λ (j : ℕ). drop j xs) r

@@ -90,3 +90,30 @@ next-fits-most i k m h g f = omega arith
 
 pub front-within : (a L : ℕ) → a ≤ L → 0 + a ≤ L
 front-within a L h = omega arith
+
+-- place i of n from the place a on, in a list of L
+pub offset-in : (a i n L : ℕ) → i < n → a + n ≤ L → a + i < L
+offset-in a i n L h g = omega arith
+
+pub offset-now : (a i n L K : ℕ) → i < n → a + n ≤ L → K ≡ L → a + i < K
+offset-now a i n L K h g e = omega arith
+
+pub offset-fits : (a i n L : ℕ) → i < n → a + n ≤ L → L < 2 ^ 64 → Fits w64 (a + i)
+offset-fits a i n L h g f = omega arith
+
+pub offset-bytes : (a i n L : ℕ) → i < n → a + n ≤ L → L * 2 < 2 ^ 63 → Fits w64 ((a + i) * 2)
+offset-bytes a i n L h g f = omega arith
+
+pub before-within : (a b n L : ℕ) → a + n ≤ b → b + n ≤ L → a + n ≤ L
+before-within a b n L h g = omega arith
+
+pub none-below : (i : ℕ) → i < 0 → ⊥
+none-below i h = omega arith
+
+-- a place in a list of cells, in bytes
+pub place-bytes : (i L : ℕ) → i < L → L * 2 < 2 ^ 63 → Fits w64 (i * 2)
+place-bytes i L h f = omega arith
+
+-- two monomials, the first before the second
+pub pair-first : (n i j L : ℕ) → i < j → (j + 1) * n ≤ L → i * n ≤ L
+pair-first n i j L h g = omega (arith, row-end n j i h, row-end n (j + 1) j (next-above j))

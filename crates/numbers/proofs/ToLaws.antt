@@ -7,8 +7,10 @@ use borrow.Author.Tests.{lt-ltb}
 use mathlib.Core.List.{List, [], _∷_, _++_}
 use Prim.Native.Nat.{ℕ, zero, suc, _+_, _*_, _-_, _%_, _^_, _≤_, _<_}
 use native.Mathlib.Omega.{arith}
-use lib.ListN.{length, getD}
-use native.Mathlib.Nat.{le-of-eq, mul-le-mul, mul-le-mul-right, zero-mul}
+use lib.ListN.{length, getD, length-take}
+use native.Mathlib.Nat.{le-of-eq, mul-le-mul, mul-le-mul-right, one-mul, suc-mul, zero-mul}
+use native.Mathlib.Numerals.{add-one}
+use Rattle.laws.proofs.Few.{Quotients, few-room, few-two, quotients-more, quotients-unit}
 use Rattle.laws.proofs.Asked.{Lists}
 use Rattle.laws.specs.Ideal.{listed}
 use Rattle.laws.proofs.Ideal.{listed-count}
@@ -20,9 +22,9 @@ use Rattle.laws.specs.Word.{wrap}
 use Rattle.laws.proofs.Word.{wrap-add, wrap-sub}
 use Rattle.laws.proofs.Branch.{Summed, summed-keep, summed-skip, summed-less}
 use Rattle.laws.proofs.Pass.{Thinned}
-use Rattle.laws.proofs.Rows.{Wrote, row-end}
+use Rattle.laws.proofs.Rows.{Wrote, at, row-end}
 use Rattle.laws.proofs.Column.{above, above-yes, above-no, Counted, counted-more, counted-skip}
-use Rattle.numbers.proofs.Steps.{next-step, later-step}
+use Rattle.numbers.proofs.Steps.{at-same, next-step, later-step}
 
 -- Column: monomial i is counted, whose exponent of v is x
 module _ (n m v i count least x : ℕ) (xs : List ℕ) (b : i < m) (h : count ≤ i) (l : least < 65536) (e : x ≡ getD xs (i * n + v) 0) (k : Counted n v xs i count least) (c d : ℕ) where
@@ -190,3 +192,134 @@ degree-fits d h = omega arith
 
 pub words-fit : (d : ℕ) → d ≤ 65536 → Fits w64 (2 * (d + 1))
 words-fit d h = omega arith
+
+-- Turn: the measures of the engine's cycle fall
+pub branch-falls : (m left k t : ℕ) → m + m + m + 2 ≡ t → left ≤ m → k < left → k + k + k + 2 < t
+branch-falls m left k t e h g = omega arith
+
+pub parts-falls : (m left b t : ℕ) → m + m + m + 2 ≡ t → left ≤ m → b ≤ left → b + (left - b) + (b + (left - b)) + (b + (left - b)) + 1 < t
+parts-falls m left b t e h g = omega arith
+
+pub inner-falls : (a t : ℕ) → a + 1 ≡ t → a < t
+inner-falls a t e = omega arith
+
+pub first-falls : (b a t : ℕ) → b + a + (b + a) + (b + a) ≡ t → 0 < b → a + a + a + 2 < t
+first-falls b a t e h = omega arith
+
+pub second-falls : (b a t : ℕ) → b + a + (b + a) + (b + a) ≡ t → 0 < a → b + b + b + 2 < t
+second-falls b a t e h = omega arith
+
+-- a place in a list of words is no large number
+pub place-small : (i L K : ℕ) → i < L → L ≡ K → K * 8 < 2 ^ 63 → i < 2305843009213693952
+place-small i L K h e f = omega arith
+
+pub level-fits : (l : ℕ) → l ≤ 16 → Fits w64 (l + 1)
+level-fits l h = omega arith
+
+pub place-fits : (i e L K : ℕ) → i < L → L ≡ K → K * 8 < 2 ^ 63 → e < 65536 → Fits w64 (i + e)
+place-fits i e L K h q f g = omega arith
+
+pub exponent-fits : (e : ℕ) → e < 65536 → Fits w64 e
+exponent-fits e g = omega arith
+
+pub place-less : (i e L K : ℕ) → i < L → L ≡ K → 0 < e → K - (i + e) < K - i
+place-less i e L K h q g = omega arith
+
+pub rest-there : (a b : ℕ) → b < a → 0 < a - b
+rest-there a b h = omega arith
+
+pub rest-sum : (a b : ℕ) → b ≤ a → b + (a - b) ≡ a
+rest-sum a b h = omega arith
+
+pub sum-first : (a b L : ℕ) → a + b ≤ L → a ≤ L
+sum-first a b L h = omega arith
+
+pub bytes-fit : (a L : ℕ) → a ≤ L → L * 2 < 2 ^ 63 → Fits w64 (a * 2)
+bytes-fit a L h f = omega arith
+
+pub width-left : (k L s : ℕ) → k ≡ L - s → k ≤ L
+width-left k L s e = omega arith
+
+pub last-of-sum : (a b : ℕ) → b ≤ a + b
+last-of-sum a b = omega arith
+
+-- Few: the quotients of k monomials in xs by number k, behind those k + 1, the place written as the code has it
+module _ (n k : ℕ) (xs : List ℕ) (g : (k + 1) * n + k * n ≤ length xs) where
+  behind : k * n + n ≡ (k + 1) * n
+  behind = omega (arith, suc-mul k n, add-one k)
+
+  pub quotients-by : k * n ≤ length xs
+  quotients-by = omega (arith, behind)
+
+  pub quotients-base : k * n + n ≤ length xs
+  quotients-base = omega (arith, behind)
+
+  module _ (i : ℕ) (h : i < k) where
+    pub quotients-from : i * n ≤ length xs
+    quotients-from = omega (arith, row-end n k i h, behind)
+
+    pub quotients-to : k * n + n + i * n ≤ length xs
+    quotients-to = omega (arith, row-end n k i h, behind)
+
+    module _ (ys zs : List ℕ) (q : Quotients n k xs i false ys)
+        (w : Wrote ys (λ t. getD ys (i * n + t) 0 - getD ys (k * n + t) 0) (k * n + n + i * n) n zs) where
+      pub quotients-next : (i + 1 ≤ k) × Quotients n k xs (i + 1) false zs
+      quotients-next = (omega arith, quotients-more n k xs i ys zs g h (rw behind at w) q)
+
+      pub quotients-one : ((j : ℕ) → j < n → getD ys (i * n + j) 0 - getD ys (k * n + j) 0 ≡ 0) → Quotients n k xs k true zs
+      quotients-one o = quotients-unit n k xs i ys zs g h (rw behind at w) o q
+
+    pub quotients-asks : (z : ℕ) → z ≡ length xs → (i * n + n ≤ k * n + n + i * n) × (k * n + n ≤ k * n + n + i * n) × (k * n + n + i * n + n ≤ z)
+    quotients-asks z e = (omega (arith, row-end n k i h), omega arith, omega (arith, row-end n k i h, behind))
+
+-- Rows: the first two monomials
+pub first-there : (n L : ℕ) → n ≤ L → 0 * n + n ≤ L
+first-there n L h = omega (arith, zero-mul n)
+
+pub second-there : (n L : ℕ) → n + n ≤ L → 1 * n + n ≤ L
+second-there n L h = omega (arith, one-mul n)
+
+pub row-within : (n i z : ℕ) (xs a : List ℕ) → a ≡ at n i xs → n ≤ z → length a ≤ z
+row-within n i z xs a e h = rw (e, length-take) (omega arith)
+
+pub rows-alike : (n : ℕ) (xs a b : List ℕ) → n + n ≤ length xs → a ≡ at n 0 xs → b ≡ at n 1 xs → length a ≡ length b
+rows-alike n xs a b h e f = at-same n 2 0 1 xs a b (omega arith) (omega arith) (omega arith) e f
+
+-- Few: a shift, and a degree more
+pub shift-small : (s : ℕ) → s < 2305843009213693952 → s < 4611686018427387904
+shift-small s h = omega arith
+
+pub shift-more : (s d : ℕ) → s < 2305843009213693952 → d ≤ 4294901760 → s + d < 4611686018427387904
+shift-more s d h g = omega arith
+
+pub shift-fits : (s d : ℕ) → s < 2305843009213693952 → d ≤ 4294901760 → Fits w64 (s + d)
+shift-fits s d h g = omega arith
+
+-- Few: one turn, of a list of left monomials by its last one
+module _ (n m left L : ℕ) (h : left ≤ m) (s : 2 < left) (g : m * m * n ≤ L) where
+  pub last-below-all : left - 1 < m
+  last-below-all = omega arith
+
+  pub last-two : (left - 1 + 1) * n + (left - 1) * n ≤ L
+  last-two = few-two n m (left - 1) L last-below-all g
+
+  pub last-end : (left - 1) * n + n ≤ L
+  last-end = omega (arith, last-two, suc-mul (left - 1) n, add-one (left - 1))
+
+  pub last-room : (left - 1) * n + n + (left - 1) * (left - 1) * n ≤ L
+  last-room = omega (arith, few-room n m (left - 1) L last-below-all g, suc-mul (left - 1) n, add-one (left - 1))
+
+  pub last-one-more : left - 1 + 1 ≡ left
+  last-one-more = omega arith
+
+pub some-left : (left : ℕ) → 2 < left → 1 ≤ left
+some-left left h = omega arith
+
+pub last-falls : (left m t : ℕ) → m ≡ t → 2 < left → left ≤ m → left - 1 < t
+last-falls left m t e h g = omega arith
+
+pub last-fewer : (left : ℕ) → 2 < left → left - 1 < left
+last-fewer left h = omega arith
+
+pub shift-below : (s d L : ℕ) → s < L → L * 8 < 2 ^ 63 → d ≤ 4294901760 → s + d < 2305843009213693952
+shift-below s d L h f g = omega arith

@@ -2,6 +2,7 @@
 // N(I) = N(I + (p)) + t^deg(p) N(I : p): the second branch is done in place, in a loop; the first is copied behind the list and has fewer
 // monomials, so the depth is at most their number.
 use crate::branch::sum_branch;
+use crate::coefficients::trimmed_length;
 use crate::few::few;
 use crate::hints::look;
 use crate::leaf::leaf;
@@ -13,25 +14,10 @@ ghost use mathlib.Core.List.{[]};
 ghost use mathlib.Core.Path.{_≡_};
 ghost use Prim.Native.Nat.{_+_, _-_, _*_, _<_, _≤_};
 ghost use lib.ListN.{length, drop};
-ghost use Rattle.laws.specs.Coefficients.{coefficient, shift as shifted, trim};
+ghost use Rattle.laws.specs.Coefficients.{coefficient, shift as shifted};
 ghost use Rattle.laws.proofs.Added.{AddedTo, Zeros};
 ghost use Rattle.laws.proofs.Rows.{rows};
 ghost use Rattle.laws.proofs.Seed.{seeded, Apart};
-
-// The trimmed length.
-pub(crate) fn trimmed(s: &[i64]) -> usize
-    ensures { λ r. ⌜ (r ≡ length (trim (now (s .entry)))) × (r ≤ length (now (s .entry))) ⌝ }
-{
-    let mut r = s.len();
-    while r > 0 {
-        let x = s[r - 1];
-        if x != 0 {
-            return r;
-        }
-        r -= 1;
-    }
-    r
-}
 
 // A list of two parts: the seed times the numerator of the last a monomials, in q, is the seed of the first b.
 fn parts_in(
@@ -65,7 +51,7 @@ fn parts_in(
         q,
         &mut scratch[..w],
     );
-    let r = trimmed(q);
+    let r = trimmed_length(q);
     add_numerator(room, n, b, shift, &q[..r], level, out, scratch);
 }
 

@@ -2,6 +2,7 @@
 use crate::leaf::add_shifted;
 use crate::leaf::degree;
 use crate::minimal::less;
+use crate::rows::row;
 ghost use mathlib.Core.Bool.{true};
 ghost use mathlib.Core.List.{[]};
 ghost use mathlib.Core.Path.{_≡_};
@@ -88,7 +89,7 @@ fn single(room: &[u16], n: usize, neg: bool, shift: usize, seed: &[i64], out: &m
     requires { ⌜ (n ≤ length (now room)) × (n ≤ 65536) × (shift < 2305843009213693952) ⌝ }
     ensures { λ _. ⌜ AddedTo (shifted shift (λ k. by neg (seeded (coefficient (now (seed .entry))) [] (rows n 1 (now (room .entry))) k))) (now (out .entry)) (now (out .exit)) ⌝ }
 {
-    let a = degree(&room[0..n]);
+    let a = degree(row(room, n, 0));
     add_factor(out, shift, a, seed, neg);
 }
 
@@ -97,11 +98,12 @@ fn pair(room: &[u16], n: usize, neg: bool, shift: usize, seed: &[i64], out: &mut
     requires { ⌜ (n + n ≤ length (now room)) × (n ≤ 65536) × (shift < 2305843009213693952) ⌝ }
     ensures { λ _. ⌜ AddedTo (shifted shift (λ k. by neg (seeded (coefficient (now (seed .entry))) [] (rows n 2 (now (room .entry))) k))) (now (out .entry)) (now (out .exit)) ⌝ }
 {
-    let e = n + n;
-    let b = degree(&room[n..e]);
-    let d = quotient_degree(&room[0..n], &room[n..e]);
+    let p = row(room, n, 0);
+    let q = row(room, n, 1);
+    let b = degree(q);
+    let d = quotient_degree(p, q);
     add_factor(out, shift + b, d, seed, !neg);
-    let a = degree(&room[0..n]);
+    let a = degree(p);
     add_factor(out, shift, a, seed, neg);
 }
 
@@ -154,11 +156,10 @@ pub(crate) fn few(
     let mut left = m;
     while left > 2 {
         left -= 1;
-        let a = left * n;
-        let ae = a + n;
-        let d = degree(&room[a..ae]);
+        let d = degree(row(room, n, left));
         let u = quotients(room, n, left);
-        few(&mut room[ae..], n, left, u, !neg, shift + d, seed, out);
+        let behind = left * n + n;
+        few(&mut room[behind..], n, left, u, !neg, shift + d, seed, out);
     }
     at_most_two(room, n, left, neg, shift, seed, out);
 }

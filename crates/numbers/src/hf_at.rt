@@ -1,6 +1,6 @@
 // The value of the Hilbert function that a list of coefficients gives: the n-fold prefix sums of its positive and of its negative part, as
-// two-word numbers where they stand in the lent room, the positive ones in its first half. Sums are held down to 2^127, so that a sum that
-// passes it anywhere is seen at the end.
+// two-word numbers where they stand in the first half of the lent room, one part after the other. Sums are held down to 2^127, so that a sum
+// that passes it anywhere is seen at the end.
 use crate::coefficients::coeff;
 use crate::signed::magnitude;
 use crate::wide::Wide;
@@ -40,13 +40,14 @@ pub fn hf_at(n: usize, coeffs: &[i64], d: usize, sums: &mut [u64]) -> SignedAnsw
     if MAX_DEGREE < d {
         return refused(Refusal::Degree);
     }
-    let half = 2 * (d + 1);
-    let asked = 4 * (d + 1);
+    let count = d + 1;
+    let half = 2 * count;
+    let asked = 4 * count;
     if sums.len() < asked {
         return refused(Refusal::SumRoom);
     }
-    let plus = sum_part(Part::Positive, n, coeffs, d, &mut sums[0..half]);
-    let minus = sum_part(Part::Negative, n, coeffs, d, &mut sums[half..asked]);
+    let plus = sum_part(Part::Positive, n, coeffs, d, &mut sums[..half]);
+    let minus = sum_part(Part::Negative, n, coeffs, d, &mut sums[..half]);
     wipe(sums, asked);
     difference(plus, minus)
 }

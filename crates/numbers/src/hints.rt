@@ -1,6 +1,7 @@
 // Hints for the engine: a word of bits for each variable, bit i set where monomial i has it. Nothing is promised of the bits: what they
 // suggest is tested where it is used.
 use crate::leaf::least;
+use crate::rows::row;
 ghost use Prim.Native.Nat.{_*_, _≤_};
 ghost use lib.ListN.{length};
 
@@ -36,9 +37,7 @@ fn marks(s: &mut [u64], room: &[u16], n: usize, m: usize)
     let mut bit: u64 = 1;
     let mut i: usize = 0;
     while i < m {
-        let a = i * n;
-        let ae = a + n;
-        mark(s, &room[a..ae], bit);
+        mark(s, row(room, n, i), bit);
         bit = std::num::wrapping_add_u64(bit, bit);
         i += 1;
     }

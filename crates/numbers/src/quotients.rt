@@ -27,8 +27,9 @@ fn divide_row(room: &mut [u16], to: usize, g: &[u16])
 {
     let mut i: usize = 0;
     while i < g.len() {
-        let x = room[to + i];
-        room[to + i] = less(x, g[i]);
+        let at = to + i;
+        let x = room[at];
+        room[at] = less(x, g[i]);
         i += 1;
     }
 }

@@ -89,10 +89,12 @@ fn swap(room: &mut [u16], n: usize, i: usize, j: usize)
     let b = j * n;
     let mut t: usize = 0;
     while t < n {
-        let x = room[a + t];
-        let y = room[b + t];
-        room[a + t] = y;
-        room[b + t] = x;
+        let p = a + t;
+        let q = b + t;
+        let x = room[p];
+        let y = room[q];
+        room[p] = y;
+        room[q] = x;
         t += 1;
     }
 }

@@ -1,15 +1,12 @@
-use Prim.Native.Nat.{_-_, _≤_}
-use borrow.Author.Needs.{needs}
+use Prim.Native.Nat.{_-_}
 use lib.ListN.{length}
-use mathlib.Core.Path.{_≡_}
-use native.Mathlib.Omega.{arith}
-use Rattle.laws.proofs.Rows.{row-end}
-use Rattle.laws.specs.Count.{bit}
+use mathlib.Core.Path.{_∙_, _≡_, refl}
+use Rattle.numbers.proofs.Steps.{next-fits, next-less, row-in}
 use Rattle.numbers.proofs.hints.marks.Statement.{statement}
 use Rattle.numbers.proofs.hints.marks.Tie as tie
 
 abbrev Inv-loop : tie.InvT-loop
-Inv-loop s₀ room n m bit₀ i₀ s bit i = (i ≤ m) × (length s ≡ length s₀)
+Inv-loop s₀ room n m bit₀ i₀ s bit i = length s ≡ length s₀
 
 abbrev μ-loop : tie.MeasureT-loop
 μ-loop s₀ room n m bit₀ i₀ s bit i = m - i
@@ -20,21 +17,18 @@ marks-spec =
     (tie.spec
     Inv-loop
     μ-loop
-    (λ c. search needs)
-    -- mul-a
-    (λ c. let p1 = c .before in let p4 = p1 .before .before .before in omega (arith, row-end (p4 .args .n) (p4 .args .m) (p1 .loop .i) (omega arith)))
-    -- add-ae
-    (λ c. let p1 = c .before in let p4 = p1 .before .before .before in omega (arith, row-end (p4 .args .n) (p4 .args .m) (p1 .loop .i) (omega arith)))
-    -- mul-mark
-    (λ c. let p2 = c .before .before in let p5 = p2 .before .before .before in omega (arith, row-end (p5 .args .n) (p5 .args .m) (p2 .loop .i) (omega arith)))
-    (λ c. search needs)
-    (λ c. search needs)
-    -- part-mark-end
-    (λ c. let p2 = c .before .before in let p5 = p2 .before .before .before in omega (arith, row-end (p5 .args .n) (p5 .args .m) (p2 .loop .i) (omega arith)))
-    (λ c κs. search needs)
-    (λ c κs. search needs)
-    (λ c. search needs)
-    (λ c. search needs)
-    (λ c. search needs)
-    (λ c. search needs)
-    (λ c. search needs))
+    -- loop-holds
+    (λ c. refl)
+    -- row-requires
+    (λ c κs. let p1 = c .before in let p2 = p1 .before in let p5 = p2 .before .before .before in row-in (p5 .args .n) (p5 .args .m) (p2 .loop .i) (length (p5 .args .room .now)) (p1 .loop-test .taken) (p5 .pre))
+    (λ c κs. tt)
+    (λ c κs. tt)
+    -- add-i
+    (λ c. let p6 = c .before .before .before .before .before .before in let p7 = p6 .before in let p10 = p7 .before .before .before in next-fits (p7 .loop .i) (p10 .args .m) (p6 .loop-test .taken) (p10 .fits .m))
+    -- loop-less
+    (λ c. let p6 = c .before .before .before .before .before .before in let p7 = p6 .before in let p10 = p7 .before .before .before in next-less (p7 .loop .i) (p10 .args .m) (p6 .loop-test .taken))
+    -- loop-again
+    (λ c. let p3 = c .before .before .before in let p7 = p3 .before .before .before .before in p3 .mark .kept .0 ∙ p7 .loop .inv)
+    -- same-length
+    (λ c. let p1 = c .before in p1 .loop .inv)
+    (λ c. tt))

@@ -1,9 +1,8 @@
-use Prim.Native.Nat.{_-_, _≤_}
-use borrow.Author.Needs.{needs}
-use lib.ListN.{getD}
-use mathlib.Core.Path.{_≡_}
-use native.Mathlib.Omega.{arith}
+use Prim.Native.Nat.{_-_, _≤_, ℕ}
+use lib.ListN.{getD, length}
+use mathlib.Core.Path.{subst}
 use Rattle.laws.proofs.Rows.{Wrote, axis, wrote-more, wrote-none}
+use Rattle.numbers.proofs.Steps.{loop-ended, next-fits, next-less, next-within, offset-bytes, offset-fits, offset-in, offset-now, zero-least}
 use Rattle.numbers.proofs.rows.put_power.Statement.{statement}
 use Rattle.numbers.proofs.rows.put_power.Tie as tie
 
@@ -20,16 +19,21 @@ put-power-spec =
     Inv-loop
     μ-loop
     -- loop-holds
-    (λ c. (omega arith, wrote-none _ _ _))
-    (λ c κs. search needs)
-    (λ c. search needs)
-    (λ c. search needs)
-    (λ c. search needs)
-    (λ c. search needs)
-    (λ c. search needs)
+    (λ c. let p1 = c .before in (zero-least (p1 .args .n), wrote-none (p1 .args .room .now) (λ j. getD (axis (p1 .args .v) (p1 .args .e)) j 0) (p1 .args .to)))
+    (λ c κs. tt)
+    -- add-room
+    (λ c. let p1 = c .before in let p2 = p1 .before in let p4 = p2 .before .before in offset-fits (p4 .args .to) (p2 .loop .i) (p4 .args .n) (length (p4 .args .room .now)) (p1 .loop-test .taken) (p4 .pre) (p4 .good .0 .0))
+    -- mul-room
+    (λ c. let p1 = c .before in let p2 = p1 .before in let p4 = p2 .before .before in offset-bytes (p4 .args .to) (p2 .loop .i) (p4 .args .n) (length (p4 .args .room .now)) (p1 .loop-test .taken) (p4 .pre) (p4 .good .0 .1))
+    -- slice-write-room
+    (λ c. let p1 = c .before in let p2 = p1 .before in let p4 = p2 .before .before in offset-now (p4 .args .to) (p2 .loop .i) (p4 .args .n) (length (p4 .args .room .now)) (length (p2 .loop .room)) (p1 .loop-test .taken) (p4 .pre) (p2 .loop .inv .1 .len))
+    -- add-i
+    (λ c. let p1 = c .before in let p2 = p1 .before in let p4 = p2 .before .before in next-fits (p2 .loop .i) (p4 .args .n) (p1 .loop-test .taken) (p4 .fits .n))
+    -- loop-less
+    (λ c. let p1 = c .before in let p2 = p1 .before in let p4 = p2 .before .before in next-less (p2 .loop .i) (p4 .args .n) (p1 .loop-test .taken))
     -- loop-again
-    (λ c. let p2 = c .before .before in (omega arith, wrote-more _ _ _ _ _ _ (omega arith) (c .cell .ensures) (p2 .loop .inv .1)))
+    (λ c. let p1 = c .before in let p2 = p1 .before in let p4 = p2 .before .before in (next-within (p2 .loop .i) (p4 .args .n) (p1 .loop-test .taken), wrote-more (p4 .args .room .now) (λ j. getD (axis (p4 .args .v) (p4 .args .e)) j 0) (p4 .args .to) (p2 .loop .i) (c .cell .result) (p2 .loop .room) (offset-in (p4 .args .to) (p2 .loop .i) (p4 .args .n) (length (p4 .args .room .now)) (p1 .loop-test .taken) (p4 .pre)) (c .cell .ensures) (p2 .loop .inv .1)))
     -- same-length
     (λ c. let p1 = c .before in p1 .loop .inv .1 .len)
     -- returns
-    (λ c. let p1 = c .before in let p3 = p1 .before .before in let e : p1 .loop .i ≡ p3 .args .n = omega arith in rw e at (p1 .loop .inv .1)))
+    (λ c. let p1 = c .before in let p3 = p1 .before .before in subst (λ (j : ℕ). Wrote (p3 .args .room .now) (λ j. getD (axis (p3 .args .v) (p3 .args .e)) j 0) (p3 .args .to) j (p1 .loop .room)) (loop-ended (p1 .loop .i) (p3 .args .n) (p1 .loop .inv .0) (c .loop-test .left)) (p1 .loop .inv .1)))
