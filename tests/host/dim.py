@@ -1,5 +1,5 @@
 """The program `dim` over pipes: the stored vectors of the host call, no input, bytes behind a record, and inputs longer than every record. It
-must write the 26 bytes of the answer record and nothing else."""
+must write the 26 bytes of the answer record and nothing else. `dim.py VECTORS COMMAND..`: the command runs the program."""
 import subprocess
 import sys
 import time
@@ -21,13 +21,13 @@ def cases(path):
 
 
 def run(program, data):
-    ran = subprocess.run([program], input=data, capture_output=True)
+    ran = subprocess.run(program, input=data, capture_output=True)
     return ran.stdout if ran.returncode == 0 and not ran.stderr else None
 
 
 def run_slowly(program, data):
     """The input byte by byte, so that no read gets it whole."""
-    ran = subprocess.Popen([program], stdin=subprocess.PIPE, stdout=subprocess.PIPE, bufsize=0)
+    ran = subprocess.Popen(program, stdin=subprocess.PIPE, stdout=subprocess.PIPE, bufsize=0)
     for byte in data:
         ran.stdin.write(bytes([byte]))
         time.sleep(0.001)
@@ -36,7 +36,7 @@ def run_slowly(program, data):
     return written if ran.wait() == 0 else None
 
 
-def main(program, path):
+def main(path, *program):
     stored = list(cases(path))
     asked = list(stored)
     asked += [(record + bytes([0]), NO_RECORD) for record, _ in stored[:20]]
