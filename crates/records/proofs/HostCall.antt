@@ -1,5 +1,6 @@
 -- The steps behind the host call, in the words of its contract.
 --   first-passes, both-pass        where nothing is refused no check holds
+--   larger-rooms                   an answer that is a dimension is the same in rooms that are as large or larger
 --   dimension-small                a dimension that is not refused is below 2^127, and its top degree at most M
 --   top-fits                       so the top degree of a record's answer fits four bytes
 --   short-is                       what the contract says where the output has no room for an answer record
@@ -24,6 +25,7 @@ use lib.Pow.{areBytes}
 use borrow.Author.Tests.{lt-ltb, le-ltb, leb-false, ltb-false, eqb-true, not-false}
 use Rattle.laws.specs.Dimension.{finite, degreeBound, powersProduct, dimension, topDegree}
 use Rattle.laws.specs.Ideal.{listed, Width, unitIn}
+use Rattle.laws.specs.Room.{cellsAsked, coefficientsAsked, dimensionWords}
 use Rattle.laws.specs.Record.{isRecord, exponentsIn, listIn, widthIn, countIn}
 use Rattle.laws.proofs.Dimension.{dimension-unit, dimension-no-variables, dimension-lt}
 use Rattle.laws.proofs.Ideal.{listed-width}
@@ -33,8 +35,8 @@ use Rattle.monomials.specs.Refusal.{Check, refusal, number, tooWide, after}
 use Rattle.monomials.specs.declared.refusal.Refusal.{Refusal}
 use Rattle.monomials.specs.declared.refusal.Refusal.the-variants.{Width as TooWide, Count, Cells, Place, Exponent, Division, CellRoom, CoefficientRoom, SumRoom, Degree, Value, Record, Dimension, Output, Coefficient}
 use Rattle.numbers.specs.Wide.{value, wide}
-use Rattle.numbers.specs.Numerator.{listChecks, tooMany, notCells}
-use Rattle.numbers.specs.Dimension.{atOnce, noDimension, boundChecks, roomChecks, dimensionChecks, dimensionAnswer, dimensionIs}
+use Rattle.numbers.specs.Numerator.{listChecks, tooMany, notCells, cellRoom, coefficientRooms}
+use Rattle.numbers.specs.Dimension.{atOnce, noDimension, boundChecks, sumRoom, roomChecks, dimensionChecks, dimensionAnswer, dimensionIs}
 use Rattle.numbers.specs.declared.dimension.Dimension.{Dimension as DimensionValue}
 use Rattle.numbers.specs.declared.dimension.DimensionOutcome.{DimensionOutcome}
 use Rattle.numbers.specs.declared.dimension.DimensionAnswer.{DimensionAnswer}
@@ -69,6 +71,45 @@ both-pass (c ∷ cs) ds e =
 or-none : (a b : Bool) → (not a || b) ≡ false → (a ≡ true) × (b ≡ false)
 or-none true b e = (refl, e)
 or-none false b e = absurd (false≢true (sym e))
+
+still-pass : (cs ds : List Check) → refusal cs ≡ none → refusal ds ≡ none → refusal (cs ++ ds) ≡ none
+still-pass [] ds p q = q
+still-pass (c ∷ cs) ds p q = let (h, g) = first-passes c cs p in rw h (still-pass cs ds g q)
+
+-- rooms as large or larger
+
+value-of : (r r' : Option Refusal) (n : ℕ) (L : List (List ℕ)) → (r ≡ none → r' ≡ none) → (a : DimensionAnswer) (d : DimensionValue) → a ≡ dimensionIs r n L → a .outcome ≡ DimensionOutcome.Value d → record { outcome = DimensionOutcome.Value d } ≡ dimensionIs r' n L
+value-of none r' n L f a d e v = rw (f refl) (ap (λ (o : DimensionOutcome). record { outcome = o }) (sym v ∙ ap (λ (b : DimensionAnswer). b .outcome) e))
+value-of (some r) r' n L f a d e v = let z : _≡_ {A = ℕ} 0 1 = cc (sym v ∙ ap (λ (b : DimensionAnswer). b .outcome) e) in absurd (omega arith)
+
+either-false : (a : Bool) → (a || a) ≡ false → a ≡ false
+either-false true e = e
+either-false false e = refl
+
+module _ (room room' : List ℕ) (p p' : List ℤ) (sums sums' : List ℕ) (h : length room ≤ length room') (g : length p ≤ length p') (f : length sums ≤ length sums') where
+  longer : {A : Type 0} (xs ys : List A) (k : ℕ) → length xs ≤ length ys → ltb (length xs) k ≡ false → ltb (length ys) k ≡ false
+  longer xs ys k l e = le-ltb (length ys) k (omega (arith, ltb-false (length xs) k e, l))
+
+  rooms-pass : (n : ℕ) (L : List (List ℕ)) → refusal (roomChecks n L room p p sums) ≡ none → refusal (roomChecks n L room' p' p' sums') ≡ none
+  rooms-pass n L e =
+      let (a, r) = first-passes (cellRoom (cellsAsked n L) room) (coefficientRooms (coefficientsAsked L) p p ∷ sumRoom (dimensionWords (degreeBound n L)) sums ∷ []) e in
+      let (b, q) = first-passes (coefficientRooms (coefficientsAsked L) p p) (sumRoom (dimensionWords (degreeBound n L)) sums ∷ []) r in
+      let (c, _) = first-passes (sumRoom (dimensionWords (degreeBound n L)) sums) [] q in
+      rw (longer room room' (cellsAsked n L) h a, longer p p' (coefficientsAsked L) g (either-false (ltb (length p) (coefficientsAsked L)) b), longer sums sums' (dimensionWords (degreeBound n L)) f c) refl
+
+  checks-pass : (W C M n s : ℕ) (cells : List ℕ) → refusal (dimensionChecks W C M n s cells room p p sums) ≡ none → refusal (dimensionChecks W C M n s cells room' p' p' sums') ≡ none
+  checks-pass W C M n s cells e =
+      let (a, b) = both-pass (listChecks W C n s cells) (cond (atOnce n (listed n s cells)) [] (boundChecks M n (listed n s cells) ++ roomChecks n (listed n s cells) room p p sums)) e in
+      still-pass (listChecks W C n s cells) (cond (atOnce n (listed n s cells)) [] (boundChecks M n (listed n s cells) ++ roomChecks n (listed n s cells) room' p' p' sums')) a (go (atOnce n (listed n s cells)) b)
+    where
+      go : (t : Bool) → refusal (cond t [] (boundChecks M n (listed n s cells) ++ roomChecks n (listed n s cells) room p p sums)) ≡ none → refusal (cond t [] (boundChecks M n (listed n s cells) ++ roomChecks n (listed n s cells) room' p' p' sums')) ≡ none
+      go true b = refl
+      go false b =
+          let (x, y) = both-pass (boundChecks M n (listed n s cells)) (roomChecks n (listed n s cells) room p p sums) b in
+          still-pass (boundChecks M n (listed n s cells)) (roomChecks n (listed n s cells) room' p' p' sums') x (rooms-pass n (listed n s cells) y)
+
+  pub larger-rooms : (W C M n s : ℕ) (cells : List ℕ) (a : DimensionAnswer) (d : DimensionValue) → a ≡ dimensionAnswer W C M n s cells room p p sums → a .outcome ≡ DimensionOutcome.Value d → record { outcome = DimensionOutcome.Value d } ≡ dimensionAnswer W C M n s cells room' p' p' sums'
+  larger-rooms W C M n s cells = value-of (refusal (dimensionChecks W C M n s cells room p p sums)) (refusal (dimensionChecks W C M n s cells room' p' p' sums')) n (listed n s cells) (checks-pass W C M n s cells)
 
 -- a dimension that is not refused
 

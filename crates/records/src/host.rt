@@ -19,7 +19,8 @@ use numbers::wide::Wide;
 ghost use mathlib.Core.Path.{_≡_};
 ghost use mathlib.Core.List.{_++_};
 ghost use Prim.Native.Nat.{_≤_};
-ghost use lib.ListN.{length, drop};
+ghost use lib.IntN.{pos};
+ghost use lib.ListN.{length, drop, replicate};
 ghost use Rattle.numbers.specs.Dimension.{dimensionAnswer};
 ghost use Rattle.records.specs.Host.{ownCells, ownCoefficients, ownWords, hostAnswer, hostNumber, hostBytes};
 ghost use Rattle.records.specs.HostParts.{recordAnswer, TopFits, toldAs, toldBytes};
@@ -79,8 +80,33 @@ fn dimension_of(rec: &[u8]) -> DimensionAnswer
     }
 }
 
-// The dimension of the m monomials in `cells`, in rooms of this call's own.
+// The dimension of the m monomials in `cells`, in rooms of this call's own. Large rooms take longer to clear than the count of a short list, so
+// small ones are tried before.
 fn in_own_rooms(n: usize, m: usize, cells: &[u16]) -> DimensionAnswer
+    ensures { λ r. do ⌜ r ≡ dimensionAnswer (← ⟦MAX_WIDTH⟧ .entry) (← ⟦MAX_COUNT⟧ .entry) (← ⟦MAX_DEGREE⟧ .entry) n m (now (cells .entry)) ownCells ownCoefficients ownCoefficients ownWords ⌝ }
+{
+    let outcome = in_small_rooms(n, m, cells).outcome;
+    match outcome {
+        DimensionOutcome::Value(d) => DimensionAnswer {
+            outcome: DimensionOutcome::Value(d),
+        },
+        DimensionOutcome::Refused(_) => in_large_rooms(n, m, cells),
+    }
+}
+
+// The same in small rooms.
+fn in_small_rooms(n: usize, m: usize, cells: &[u16]) -> DimensionAnswer
+    ensures { λ r. do ⌜ r ≡ dimensionAnswer (← ⟦MAX_WIDTH⟧ .entry) (← ⟦MAX_COUNT⟧ .entry) (← ⟦MAX_DEGREE⟧ .entry) n m (now (cells .entry)) (replicate 2048 0) (replicate 128 (pos 0)) (replicate 128 (pos 0)) (replicate 128 0) ⌝ }
+{
+    let mut room = [0u16; 2048];
+    let mut first = [0i64; 128];
+    let mut second = [0i64; 128];
+    let mut sums = [0u64; 128];
+    quotient_dimension(n, m, cells, &mut room, &mut first, &mut second, &mut sums)
+}
+
+// The same in the rooms that the call's refusals speak of.
+fn in_large_rooms(n: usize, m: usize, cells: &[u16]) -> DimensionAnswer
     ensures { λ r. do ⌜ r ≡ dimensionAnswer (← ⟦MAX_WIDTH⟧ .entry) (← ⟦MAX_COUNT⟧ .entry) (← ⟦MAX_DEGREE⟧ .entry) n m (now (cells .entry)) ownCells ownCoefficients ownCoefficients ownWords ⌝ }
 {
     let mut room = [0u16; CELL_ROOM];
