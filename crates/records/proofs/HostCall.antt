@@ -8,14 +8,15 @@
 --   tell-done, tell-refused        how an answer is told
 --   done-number, refused-number    the number of the call's answer
 --   copied-shape, copied-refused   what copying a record into cells enough for every record tells
---   record-area                    how many cells these are
+--   record-area, record-fits       how many cells these are
 --   record-dimension, no-record-dimension   the dimension of what was copied is the record's answer
 -- Assumes nothing.
 use mathlib.Core.Path.{_≡_, refl, sym, ap, _∙_}
+use mathlib.Core.Logic.{_⊎_, inl, inr}
 use mathlib.Core.Bool.{Bool, true, false, not, _||_, cond, false≢true}
 use mathlib.Core.List.{List, [], _∷_, _++_}
 use mathlib.Core.Option.{Option, none, some}
-use Prim.Native.Nat.{ℕ, _*_, _^_, _≤_, _<_}
+use Prim.Native.Nat.{ℕ, _+_, _*_, _^_, _≤_, _<_}
 use native.Mathlib.Nat.{lt-of-le-of-lt, lt-of-lt-of-le, mod-eq-of-lt}
 use native.Mathlib.Omega.{arith}
 use lib.Dec.{leb, ltb, eqb, lit≤, lit<}
@@ -276,6 +277,11 @@ module _ (C : ℕ) (rec cells : List ℕ) (a : CopyAnswer) (e : a ≡ copyAnswer
 pub record-area : (rec : List ℕ) → areBytes rec ≡ true → isRecord 60 rec ≡ true → countIn rec * widthIn rec ≤ 15300
 record-area rec h e =
     area (countIn rec) (widthIn rec) (record-tests 60 rec h .0 e .few) (omega (arith, byte-at rec 5 h))
+
+-- and those of a record of so many bytes in these
+pub record-fits : (rec cells : List ℕ) → areBytes rec ≡ true → (15300 ≤ length cells) ⊎ (length rec ≤ 2 * length cells + 7) → isRecord 60 rec ≡ true → countIn rec * widthIn rec ≤ length cells
+record-fits rec cells h (inl l) e = omega (arith, record-area rec h e, l)
+record-fits rec cells h (inr l) e = omega (arith, record-tests 60 rec h .0 e .total, l)
 
 -- the dimension of what was copied
 

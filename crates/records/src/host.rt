@@ -17,8 +17,9 @@ use numbers::dimension::quotient_dimension;
 use numbers::hf_at::MAX_DEGREE;
 use numbers::wide::Wide;
 ghost use mathlib.Core.Path.{_≡_};
+ghost use mathlib.Core.Logic.{_⊎_};
 ghost use mathlib.Core.List.{_++_};
-ghost use Prim.Native.Nat.{_≤_};
+ghost use Prim.Native.Nat.{_+_, _*_, _≤_};
 ghost use lib.IntN.{pos};
 ghost use lib.ListN.{length, drop, replicate};
 ghost use Rattle.numbers.specs.Dimension.{dimensionAnswer};
@@ -61,12 +62,40 @@ pub extern "C" fn purlthicket_dim(rec: &[u8], out: &mut [u8]) -> u8
     }
 }
 
-// The dimension of what the record lists, or what is refused.
+// The dimension of what the record lists, or what is refused. The cells that every record finds room in take long to clear, so a short record has
+// fewer.
 fn dimension_of(rec: &[u8]) -> DimensionAnswer
     ensures { λ r. do ⌜ r ≡ recordAnswer (← ⟦MAX_WIDTH⟧ .entry) (← ⟦MAX_COUNT⟧ .entry) (← ⟦MAX_DEGREE⟧ .entry) (now (rec .entry)) ⌝ }
 {
+    if rec.len() <= 519 {
+        return in_few_cells(rec);
+    }
+    in_all_cells(rec)
+}
+
+// The same for a record with at most 256 exponents.
+fn in_few_cells(rec: &[u8]) -> DimensionAnswer
+    requires { ⌜ length (now rec) ≤ 519 ⌝ }
+    ensures { λ r. do ⌜ r ≡ recordAnswer (← ⟦MAX_WIDTH⟧ .entry) (← ⟦MAX_COUNT⟧ .entry) (← ⟦MAX_DEGREE⟧ .entry) (now (rec .entry)) ⌝ }
+{
+    let mut cells = [0u16; 256];
+    dimension_in(rec, &mut cells)
+}
+
+// The same for any record.
+fn in_all_cells(rec: &[u8]) -> DimensionAnswer
+    ensures { λ r. do ⌜ r ≡ recordAnswer (← ⟦MAX_WIDTH⟧ .entry) (← ⟦MAX_COUNT⟧ .entry) (← ⟦MAX_DEGREE⟧ .entry) (now (rec .entry)) ⌝ }
+{
     let mut cells = [0u16; MAX_CELLS];
-    let outcome = copy_record(rec, &mut cells).outcome;
+    dimension_in(rec, &mut cells)
+}
+
+// The same, the exponents copied into `cells`.
+fn dimension_in(rec: &[u8], cells: &mut [u16]) -> DimensionAnswer
+    requires { ⌜ (15300 ≤ length (now cells)) ⊎ (length (now rec) ≤ 2 * length (now cells) + 7) ⌝ }
+    ensures { λ r. do ⌜ r ≡ recordAnswer (← ⟦MAX_WIDTH⟧ .entry) (← ⟦MAX_COUNT⟧ .entry) (← ⟦MAX_DEGREE⟧ .entry) (now (rec .entry)) ⌝ }
+{
+    let outcome = copy_record(rec, cells).outcome;
     match outcome {
         CopyOutcome::Value(shape) => {
             let n = shape.n;
