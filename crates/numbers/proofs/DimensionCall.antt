@@ -8,10 +8,10 @@ use mathlib.Core.Logic.{_≢_, _⊎_}
 use mathlib.Core.Bool.{Bool, true, false, not, _||_, false≢true}
 use mathlib.Core.List.{List, [], _∷_, _++_, append-nil}
 use mathlib.Core.Option.{Option, none, some}
-use Prim.Native.Nat.{ℕ, zero, suc, _+_, _*_, _^_, _≤_, _<_}
-use native.Mathlib.Nat.{le-trans}
+use Prim.Native.Nat.{ℕ, zero, suc, _*_, _%_, _^_, _≤_, _<_}
+use native.Mathlib.Nat.{le-trans, mod-eq-of-lt, mod-mod}
 use native.Mathlib.Omega.{arith}
-use lib.Dec.{leb, ltb, lit≤}
+use lib.Dec.{leb, ltb, lit<, lit≤}
 use lib.IntN.{ℤ, pos}
 use lib.ListN.{length, replicate, drop, getD}
 use borrow.Author.Tests.{lt-ltb, le-ltb, eq-eqb, ne-eqb, ltb-false, leb-false, le-leb, lt-leb}
@@ -19,20 +19,19 @@ use Rattle.laws.specs.Ideal.{listed, Within, unitIn}
 use Rattle.laws.specs.Coefficients.{coefficient}
 use Rattle.laws.specs.Count.{HF}
 use Rattle.laws.specs.Numerator.{numerator}
-use Rattle.laws.specs.Sums.{sumBelow, sumsℤ}
+use Rattle.laws.specs.Sums.{sum, sumsℤ}
 use Rattle.laws.specs.Word.{residue}
 use Rattle.laws.specs.Dimension.{finite, degreeBound, powersProduct, dimension, topDegree}
 use Rattle.laws.specs.Room.{cellsAsked, coefficientsAsked, dimensionWords}
 use Rattle.laws.proofs.Ideal.{listed-width}
 use Rattle.laws.proofs.Coefficients.{coefficient-padded}
-use Rattle.laws.proofs.Sums.{sums-ext}
-use Rattle.laws.proofs.Asked.{sumBelow-ext}
-use Rattle.laws.proofs.Dimension.{finite-power, dimension-unit, dimension-no-variables, hf-residue, dimension-below}
+use Rattle.laws.proofs.Sums.{sums-ext, residue-sum}
+use Rattle.laws.proofs.Word.{residue-lt}
+use Rattle.laws.proofs.Dimension.{finite-power, dimension-unit, dimension-no-variables, hf-residue, dimension-sum}
 use Rattle.monomials.specs.Refusal.{Check, refusal, after}
 use Rattle.monomials.specs.declared.refusal.Refusal.{Refusal}
 use Rattle.monomials.specs.declared.refusal.Refusal.the-variants.{Width, Count, Cells as CellsOut, CellRoom, CoefficientRoom, SumRoom, Dimension, Value}
-use Rattle.numbers.specs.Wide.{wide, productAnswer}
-use Rattle.numbers.specs.HilbertParts.{numberAt}
+use Rattle.numbers.specs.Wide.{wide, wideOf, productAnswer}
 use Rattle.numbers.specs.Numerator.{wiped}
 use Rattle.numbers.specs.Dimension.{dimensionIs, atOnce, noDimension, boundChecks, roomChecks, dimensionChecks, dimensionAnswer, dimensionRoom, dimensionFirst, dimensionSecond, dimensionSums}
 use Rattle.numbers.specs.DimensionParts.{Bounded, Powers, boundAnswer, checkedIs}
@@ -46,6 +45,7 @@ use Rattle.numbers.specs.declared.dimension.DimensionOutcome.{DimensionO
 use Rattle.numbers.specs.declared.dimension.DimensionAnswer.{DimensionAnswer}
 use Rattle.numbers.proofs.LeastPowers.{product-exact, product-passed}
 use Rattle.numbers.proofs.ToLaws.{either-short}
+use Rattle.numbers.proofs.TwoWords.{wide-mod}
 
 -- the checks 13 and 11
 
@@ -117,16 +117,19 @@ checked-refused (some x) b r e = ap some (cc)
 -- counting
 
 module _ (n d : ℕ) (L : List (List ℕ)) (b : Bounded n L d) where
-  -- the sums modulo 2^128 are the Hilbert function
-  pub values : Within n L → (p : List ℤ) (j : ℕ) → p ≡ numerator L ++ replicate j (pos 0) → (k : ℕ) → k < d + 1 → residue (2 ^ 128) (sumsℤ n (coefficient p) k) ≡ HF L n k
+  -- the n-fold sums modulo 2^128 are the Hilbert function
+  values : Within n L → (p : List ℤ) (j : ℕ) → p ≡ numerator L ++ replicate j (pos 0) → (k : ℕ) → k < suc d → residue (2 ^ 128) (sumsℤ n (coefficient p) k) ≡ HF L n k
   values w p j e k h =
       ap (residue (2 ^ 128)) (sums-ext n (coefficient p) (coefficient (numerator L)) (λ i. ap (λ (l : List ℤ). coefficient l i) e ∙ coefficient-padded (numerator L) j i) k)
       ∙ hf-residue n L (b .powers) (2 ^ 128) (le-trans (b .product) (lit≤ tt)) k w (omega (arith, b .bound))
 
-  -- and their total is the dimension
-  pub counted : (words : List ℕ) (r : Wide) → ((k : ℕ) → k < d + 1 → numberAt words k ≡ HF L n k) → r ≡ wide (sumBelow (d + 1) (numberAt words)) → r ≡ wide (dimension n L)
-  counted words r h e =
-      e ∙ ap wide (sumBelow-ext (d + 1) (numberAt words) (HF L n) h ∙ ap (λ (k : ℕ). sumBelow (k + 1) (HF L n)) (b .bound) ∙ dimension-below n L)
+  -- and their sum is the dimension
+  pub counted : Within n L → (p : List ℤ) (j : ℕ) → p ≡ numerator L ++ replicate j (pos 0) → (r : Wide) → r ≡ wideOf (sumsℤ (suc n) (coefficient p) d) → r ≡ wide (dimension n L)
+  counted w p j e r g =
+      g
+      ∙ ap wide (sym (residue-sum (2 ^ 128) (lit< tt) (suc d) (sumsℤ n (coefficient p)) (HF L n) (λ k h. let v = values w p j e k h in rw (← v) (mod-eq-of-lt (residue-lt (2 ^ 128) (lit< tt) (sumsℤ n (coefficient p) k)))) d (omega arith)))
+      ∙ wide-mod (sum (HF L n) d % 2 ^ 128) (sum (HF L n) d) (mod-mod (sum (HF L n) d) (2 ^ 128))
+      ∙ ap wide (ap (sum (HF L n)) (b .bound) ∙ sym (dimension-sum n L))
 
 -- the rooms' checks
 

@@ -3,7 +3,8 @@
 use crate::asked::cells_asked;
 use crate::asked::coefficients_asked;
 use crate::hf_at::MAX_DEGREE;
-use crate::hf_at::wipe;
+use crate::hf_at::Terms;
+use crate::hf_at::prefix_sum;
 use crate::leaf::least;
 use crate::leaf::zero;
 use crate::numerator::numerator_in;
@@ -12,8 +13,6 @@ use crate::powers::degree_bound;
 use crate::powers::has_unit;
 use crate::powers::least_powers;
 use crate::powers::powers_product;
-use crate::totals::prefix_sums;
-use crate::totals::total;
 use crate::wide::Product;
 use crate::wide::Wide;
 use monomials::refusal::MAX_COUNT;
@@ -195,10 +194,7 @@ fn dimension_in(
     ensures { λ _. ⌜ now (sums .exit) ≡ replicate (length (now (sums .entry))) 0 ⌝ }
 {
     numerator_in(n, s, cells, room, first, second);
-    let count = d + 1;
-    prefix_sums(n, first, count, sums);
-    let r = total(count, sums);
+    let r = prefix_sum(Terms::Signed, n + 1, first, d, sums);
     zero(first);
-    wipe(sums, 2 * count);
     r
 }
