@@ -13,8 +13,8 @@ use native.Mathlib.Nat.{le-trans, mod-eq-of-lt, mod-mod}
 use native.Mathlib.Omega.{arith}
 use lib.Dec.{leb, ltb, lit<, lit≤}
 use lib.IntN.{ℤ, pos}
-use lib.ListN.{length, replicate, drop, getD}
-use borrow.Author.Tests.{lt-ltb, le-ltb, eq-eqb, ne-eqb, ltb-false, leb-false, le-leb, lt-leb}
+use lib.ListN.{length, replicate, drop}
+use borrow.Author.Tests.{lt-ltb, le-ltb, eq-eqb, ne-eqb, ltb-false, leb-false}
 use Rattle.laws.specs.Ideal.{listed, Within, unitIn}
 use Rattle.laws.specs.Coefficients.{coefficient}
 use Rattle.laws.specs.Count.{HF}
@@ -27,23 +27,18 @@ use Rattle.laws.proofs.Ideal.{listed-width}
 use Rattle.laws.proofs.Coefficients.{coefficient-padded}
 use Rattle.laws.proofs.Sums.{sums-ext, residue-sum}
 use Rattle.laws.proofs.Word.{residue-lt}
-use Rattle.laws.proofs.Dimension.{finite-power, dimension-unit, dimension-no-variables, hf-residue, dimension-sum}
+use Rattle.laws.proofs.Dimension.{dimension-unit, dimension-no-variables, hf-residue, dimension-sum}
 use Rattle.monomials.specs.Refusal.{Check, refusal, after}
 use Rattle.monomials.specs.declared.refusal.Refusal.{Refusal}
-use Rattle.monomials.specs.declared.refusal.Refusal.the-variants.{Width, Count, Cells as CellsOut, CellRoom, CoefficientRoom, SumRoom, Dimension, Value}
-use Rattle.numbers.specs.Wide.{wide, wideOf, productAnswer}
+use Rattle.monomials.specs.declared.refusal.Refusal.the-variants.{Width, Count, Cells as CellsOut, CellRoom, CoefficientRoom, SumRoom}
+use Rattle.numbers.specs.Wide.{wide, wideOf}
 use Rattle.numbers.specs.Numerator.{wiped}
 use Rattle.numbers.specs.Dimension.{dimensionIs, atOnce, noDimension, boundChecks, roomChecks, dimensionChecks, dimensionAnswer, dimensionRoom, dimensionFirst, dimensionSecond, dimensionSums}
-use Rattle.numbers.specs.DimensionParts.{Bounded, Powers, boundAnswer, checkedIs}
+use Rattle.numbers.specs.DimensionParts.{Bounded, checkedIs}
 use Rattle.numbers.specs.declared.wide.Wide.{Wide}
-use Rattle.numbers.specs.declared.wide.Product.{Product}
-use Rattle.numbers.specs.declared.wide.Product.the-variants.{Exact, Passed}
-use Rattle.numbers.specs.declared.powers.Bound.{Bound}
-use Rattle.numbers.specs.declared.powers.Bound.the-variants.{At, None}
-use Rattle.numbers.specs.declared.dimension.Checked.{Checked}
+use Rattle.numbers.specs.declared.powers.Checked.{Checked}
 use Rattle.numbers.specs.declared.dimension.DimensionOutcome.{DimensionOutcome}
 use Rattle.numbers.specs.declared.dimension.DimensionAnswer.{DimensionAnswer}
-use Rattle.numbers.proofs.LeastPowers.{product-exact, product-passed}
 use Rattle.numbers.proofs.ToLaws.{either-short}
 use Rattle.numbers.proofs.TwoWords.{wide-mod}
 
@@ -59,39 +54,6 @@ module _ (M n : ℕ) (L : List (List ℕ)) where
   has-dimension e =
       let (f, l) = or-none (finite n L) (ltb M (degreeBound n L)) e in
       (f, ltb-false M (degreeBound n L) l)
-
-  -- what the degree bound's answer says
-  module _ (b : Bound) (e : b ≡ boundAnswer M n L) where
-    pub bound-none : b ≡ None → noDimension M n L ≡ true
-    bound-none g = go (noDimension M n L) refl
-      where
-        go : (t : Bool) → noDimension M n L ≡ t → t ≡ true
-        go true h = refl
-        go false h = let z : _≡_ {A = ℕ} 0 1 = cc (rw h at e) in absurd (omega arith)
-
-    pub bound-at : (d : ℕ) → b ≡ At d → (noDimension M n L ≡ false) × (d ≡ degreeBound n L)
-    bound-at d g = go (noDimension M n L) refl
-      where
-        go : (t : Bool) → noDimension M n L ≡ t → (t ≡ false) × (d ≡ degreeBound n L)
-        go true h = let z : _≡_ {A = ℕ} 0 1 = cc (rw h at e) in absurd (omega arith)
-        go false h = (refl, cc (rw h at e))
-
-    pub checked-none : b ≡ None → Checked.Refused Dimension ≡ checkedIs (refusal (boundChecks M n L)) (degreeBound n L)
-    checked-none g = rw (bound-none g)
-
-    -- and that of the product
-    module _ (d : ℕ) (g : b ≡ At d) (p : Product) (f : p ≡ productAnswer (powersProduct n L)) where
-      pub checked-passed : p ≡ Passed → Checked.Refused Value ≡ checkedIs (refusal (boundChecks M n L)) (degreeBound n L)
-      checked-passed h =
-          rw (bound-at d g .0, le-leb (2 ^ 127) (powersProduct n L) (product-passed (powersProduct n L) (sym f ∙ h)))
-
-      pub checked-exact : (w : Wide) → p ≡ Exact w → Checked.Bound d ≡ checkedIs (refusal (boundChecks M n L)) (degreeBound n L)
-      checked-exact w h =
-          rw (bound-at d g .0, lt-leb (2 ^ 127) (powersProduct n L) (product-exact (powersProduct n L) w (sym f ∙ h) .0)) (ap Checked.Bound (bound-at d g .1))
-
-  -- each variable has a power
-  pub powers-there : (powers : List ℕ) → Powers n L powers → noDimension M n L ≡ false → (v : ℕ) → v < n → getD powers v 0 ≢ 0
-  powers-there powers p e v h z = finite-power n L v (has-dimension e .0) h (sym (p v h) ∙ z)
 
   -- a list that passes both
   pub bounded : (d : ℕ) → unitIn L ≡ false → M ≤ 65536 → refusal (boundChecks M n L) ≡ none → d ≡ degreeBound n L → Bounded n L d

@@ -1,15 +1,14 @@
 -- What the private steps of `quotient_dimension` promise to one another; no public contract cites it.
 --   Cells n s cells      == the cells are those of s monomials in n variables, few enough for the numerator
 --   Powers n L powers    == the first n cells hold the least power of each variable in L
---   boundAnswer M n L    == D, where each of the n variables has a pure power in L and D is at most M
---   BoundOf M n powers r == r is that answer for any list with these powers
 --   checkedIs r d        == the refusal, or else d
+--   BoundOf M n powers r == r is D, or the refusal by 13 or 11, for any list with these powers
 --   roomRefusal n s cells room p q sums == the refusal for want of room, if any
 --   Bounded n L d        == L has a dimension below 2^127, and D is d
 --   Lent n L d room p q sums == the rooms have the sizes asked
 -- Assumes nothing.
 use mathlib.Core.Path.{_≡_}
-use mathlib.Core.Bool.{true, false, cond}
+use mathlib.Core.Bool.{true, false}
 use mathlib.Core.List.{List}
 use mathlib.Core.Option.{Option, none, some}
 use Prim.Native.Nat.{ℕ, _*_, _^_, _<_, _≤_}
@@ -20,28 +19,23 @@ use Rattle.laws.specs.Dimension.{leastPower, finite, degreeBound, powersProduct
 use Rattle.laws.specs.Room.{cellsAsked, coefficientsAsked, dimensionWords}
 use Rattle.monomials.specs.Refusal.{refusal}
 use Rattle.monomials.specs.declared.refusal.Refusal.{Refusal}
-use Rattle.numbers.specs.Dimension.{noDimension, roomChecks}
-use Rattle.numbers.specs.declared.powers.Bound.{Bound}
-use Rattle.numbers.specs.declared.powers.Bound.the-variants.{At, None}
-use Rattle.numbers.specs.declared.dimension.Checked.{Checked}
+use Rattle.numbers.specs.Dimension.{boundChecks, roomChecks}
+use Rattle.numbers.specs.declared.powers.Checked.{Checked}
 
 pub record Cells (n s : ℕ) (cells : List ℕ) : Type 0 where
   pub there : length cells ≡ s * n
   pub width : n ≤ 255
   pub count : s ≤ 60
 
-abbrev pub boundAnswer : ℕ → ℕ → List (List ℕ) → Bound
-boundAnswer M n L = cond (noDimension M n L) None (At (degreeBound n L))
-
 abbrev pub Powers : ℕ → List (List ℕ) → List ℕ → Type 0
 Powers n L powers = (v : ℕ) → v < n → getD powers v 0 ≡ leastPower L v
-
-abbrev pub BoundOf : ℕ → ℕ → List ℕ → Bound → Type 0
-BoundOf M n powers r = (L : List (List ℕ)) → Powers n L powers → r ≡ boundAnswer M n L
 
 abbrev pub checkedIs : Option Refusal → ℕ → Checked
 checkedIs none d = Checked.Bound d
 checkedIs (some r) d = Checked.Refused r
+
+abbrev pub BoundOf : ℕ → ℕ → List ℕ → Checked → Type 0
+BoundOf M n powers r = (L : List (List ℕ)) → Powers n L powers → r ≡ checkedIs (refusal (boundChecks M n L)) (degreeBound n L)
 
 abbrev pub roomRefusal : ℕ → ℕ → List ℕ → List ℕ → List ℤ → List ℤ → List ℕ → Option Refusal
 roomRefusal n s cells room p q sums = refusal (roomChecks n (listed n s cells) room p q sums)

@@ -8,26 +8,22 @@ use crate::hf_at::prefix_sum;
 use crate::leaf::least;
 use crate::leaf::zero;
 use crate::numerator::numerator_in;
-use crate::powers::Bound;
-use crate::powers::degree_bound;
+use crate::powers::Checked;
+use crate::powers::checked_bound;
 use crate::powers::has_unit;
-use crate::powers::least_powers;
-use crate::powers::powers_product;
-use crate::wide::Product;
 use crate::wide::Wide;
 use monomials::refusal::MAX_COUNT;
 use monomials::refusal::MAX_WIDTH;
 use monomials::refusal::Refusal;
 ghost use mathlib.Core.Path.{_≡_};
-ghost use Prim.Native.Nat.{_≤_};
 ghost use lib.IntN.{pos};
 ghost use lib.ListN.{length, replicate};
 ghost use Rattle.laws.specs.Dimension.{degreeBound, dimension as dimensionOf};
 ghost use Rattle.laws.specs.Ideal.{listed};
 ghost use Rattle.laws.specs.Room.{cellsAsked, coefficientsAsked, dimensionWords};
 ghost use Rattle.monomials.specs.Refusal.{refusal as refusalOf, after};
-ghost use Rattle.numbers.specs.Dimension.{dimensionAnswer, dimensionRoom, dimensionFirst, dimensionSecond, dimensionSums, dimensionIs, boundChecks};
-ghost use Rattle.numbers.specs.DimensionParts.{Cells, Bounded, Lent, checkedIs, roomRefusal};
+ghost use Rattle.numbers.specs.Dimension.{dimensionAnswer, dimensionRoom, dimensionFirst, dimensionSecond, dimensionSums, dimensionIs};
+ghost use Rattle.numbers.specs.DimensionParts.{Cells, Bounded, Lent, roomRefusal};
 ghost use Rattle.numbers.specs.Numerator.{wiped};
 ghost use Rattle.numbers.specs.Wide.{wide};
 
@@ -45,12 +41,6 @@ pub enum DimensionOutcome {
 
 pub struct DimensionAnswer {
     pub outcome: DimensionOutcome,
-}
-
-// The degree bound, or a refusal.
-enum Checked {
-    Bound(usize),
-    Refused(Refusal),
 }
 
 // How many monomials in n variables are no multiple of the s monomials in `cells`. With a unit it is 0, and without variables 1: these ask no
@@ -111,24 +101,6 @@ fn answered(dimension: Wide, top: u64) -> DimensionAnswer
             top: top,
         }),
     }
-}
-
-// The degree bound, unless there is no dimension or the product of the least powers reaches 2^127.
-fn checked_bound(n: usize, s: usize, cells: &[u16]) -> Checked
-    requires { ⌜ Cells n s (now cells) × (n ≤ 255) ⌝ }
-    ensures { λ r. do ⌜ r ≡ checkedIs (refusalOf (boundChecks (← ⟦MAX_DEGREE⟧ .entry) n (listed n s (now (cells .entry))))) (degreeBound n (listed n s (now (cells .entry)))) ⌝ }
-{
-    let mut powers = [0u16; MAX_WIDTH];
-    least_powers(n, s, cells, &mut powers);
-    let b = degree_bound(n, &powers);
-    let Bound::At(d) = b else {
-        return Checked::Refused(Refusal::Dimension);
-    };
-    let p = powers_product(n, &powers);
-    let Product::Exact(_) = p else {
-        return Checked::Refused(Refusal::Value);
-    };
-    Checked::Bound(d)
 }
 
 // The dimension of a list whose degree bound is d, where the rooms suffice.

@@ -35,7 +35,7 @@ quotient-dimension-spec =
     -- returns-5
     (λ c. let p1 = c .before in let p2 = p1 .before in let p3 = p2 .before in let p4 = p3 .before in let p5 = p4 .before in let p6 = p5 .before in let p10 = p6 .before .before .before .before in gives-one 255 60 65536 (p10 .args .n) (p10 .args .s) (p10 .args .cells .now) (p10 .args .room .now) (p10 .args .first .now) (p10 .args .second .now) (p10 .args .sums .now) (p6 .if1 .left) (p5 .if2 .left) (p4 .if3 .left) (c .answered2 .result) (sym (p3 .has-unit .ensures) ∙ p2 .if4 .left) (p1 .if5 .taken) (c .answered2 .ensures))
     -- checked-bound-requires
-    (λ c κs. let p3 = c .before .before .before in let p4 = p3 .before in let p5 = p4 .before in ((record { there = p3 .if3 .left; width = p5 .if1 .left; count = p4 .if2 .left }), p5 .if1 .left))
+    (λ c κs. let p3 = c .before .before .before in let p4 = p3 .before in let p5 = p4 .before in record { there = p3 .if3 .left; width = p5 .if1 .left; count = p4 .if2 .left })
     (λ c. search needs)
     -- in-rooms-requires
     (λ c κs. let p5 = c .before .before .before .before .before in let p7 = p5 .before .before in let p9 = p7 .before .before in let p10 = p9 .before in let p11 = p10 .before in let p12 = p11 .before in let p13 = p12 .before in let p17 = p13 .before .before .before .before in let k = checked-bound (refusal (boundChecks 65536 (p17 .args .n) (listed (p17 .args .n) (p17 .args .s) (p17 .args .cells .now)))) (degreeBound (p17 .args .n) (listed (p17 .args .n) (p17 .args .s) (p17 .args .cells .now))) (p5 .c .given .0 .0) (sym (p7 .checked-bound .ensures) ∙ p5 .c .given .1) in ((record { there = p11 .if3 .left; width = p13 .if1 .left; count = p12 .if2 .left }), bounded 65536 (p17 .args .n) (listed (p17 .args .n) (p17 .args .s) (p17 .args .cells .now)) (p5 .c .given .0 .0) (sym (p10 .has-unit .ensures) ∙ p9 .if4 .left) (le-refl 65536) (k .0) (k .1)))

@@ -1,4 +1,4 @@
-use mathlib.Core.Path.{ap, ap₂, _≡_, refl, _∙_}
+use mathlib.Core.Path.{ap₂, _≡_, refl, _∙_}
 use mathlib.Core.Bool.{cond}
 use lib.Dec.{eqb}
 use native.Mathlib.Nat.{le-refl}
@@ -28,7 +28,6 @@ take-in-spec =
     (λ c. (search needs, search needs, λ j h. absurd (omega arith), λ j h. refl))
     (λ c. search needs)
     (λ c. search needs)
-    (λ c κs. search needs)
     (λ c. search needs)
     (λ c. search needs)
     (λ c κs. search needs)
@@ -36,10 +35,12 @@ take-in-spec =
     (λ c. search needs)
     (λ c. search needs)
     (λ c. search needs)
-    (λ c. let l = c .before .before .before .before .before .loop in
-    let m = c .before .before .before .before .before .before .before .before .before .args .m .now in
+    (λ c. let p = c .before .before .before .before in
+    let l = p .loop in
+    let a = p .before .before .before .before .args in
+    let m = a .m .now in
     let r = c .lesser .result in
-    let p : c .before .before .pure .result ≡ purePower m (l .v) = c .before .before .pure .ensures ∙ ap (λ (d : ℕ). cond (eqb d (getD m (l .v) 0)) (getD m (l .v) 0) 0) (c .before .before .before .before .before .before .degree .ensures .0) in
-    (search needs, search needs, below-more (λ j. getD (set (l .powers) (l .v) r) j 0 ≡ lesser (purePower m j) (getD (c .before .before .before .before .before .before .before .before .before .args .powers .now) j 0)) (l .v) (λ j h. getD-set-other (l .powers) (l .v) j r 0 (omega arith) ∙ l .inv .2 j h) (getD-set-same (l .powers) (l .v) r 0 (search needs) ∙ c .lesser .ensures ∙ ap₂ lesser p (l .inv .3 (l .v) (le-refl (l .v)))), λ j h. getD-set-other (l .powers) (l .v) j r 0 (omega arith) ∙ l .inv .3 j (omega arith)))
+    let e : r ≡ lesser (purePower m (l .v)) (getD (a .powers .now) (l .v) 0) = c .lesser .ensures ∙ ap₂ (λ (d y : ℕ). lesser (cond (eqb d (getD m (l .v) 0)) (getD m (l .v) 0) 0) y) (p .before .degree .ensures .0) (l .inv .3 (l .v) (le-refl (l .v))) in
+    (search needs, search needs, below-more (λ j. getD (set (l .powers) (l .v) r) j 0 ≡ lesser (purePower m j) (getD (a .powers .now) j 0)) (l .v) (λ j h. getD-set-other (l .powers) (l .v) j r 0 (omega arith) ∙ l .inv .2 j h) (getD-set-same (l .powers) (l .v) r 0 (search needs) ∙ e), λ j h. getD-set-other (l .powers) (l .v) j r 0 (omega arith) ∙ l .inv .3 j (omega arith)))
     (λ c. search needs)
     (λ c. λ v h. c .before .loop .inv .2 v (omega arith)))
