@@ -1,9 +1,11 @@
--- Lists of two-word numbers, two words each, one of which is written. Assumes nothing.
+-- Lists of two-word numbers, two words each: which there are, and one that is written. Assumes nothing.
 use mathlib.Core.Path.{_≡_, ap, ap₂, _∙_}
 use mathlib.Core.Logic.{_≢_}
 use mathlib.Core.List.{List}
 use Prim.Native.Nat.{ℕ, _+_, _*_, _^_, _<_, _≤_}
 use native.Mathlib.Omega.{arith}
+use mir.Syntax.{w64}
+use mir.Val.{Fits}
 use lib.ListN.{length, getD, set, length-set}
 use lib.Seq.{getD-set-same, getD-set-other}
 use borrow.Author.Count.{below-more}
@@ -39,3 +41,10 @@ module _ (xs ys : List ℕ) (k : ℕ) (w : Wide) (f : ℕ → ℕ) (h : 2 * k + 
   -- and what holds of those from k on holds of those from k + 1 on
   pub put-rest : ((j : ℕ) → k ≤ j → numberAt xs j ≡ f j) → (j : ℕ) → k + 1 ≤ j → numberAt ys j ≡ f j
   put-rest b j l = rw e (put-other xs k j w (omega arith) ∙ b j (omega arith))
+
+-- number k of the first m, in a list of K words that is as long as one of L
+pub number-in : (k m L K : ℕ) → k < m → 2 * m ≤ L → K ≡ L → 2 * k + 1 < K
+number-in k m L K h l e = omega arith
+
+pub numbers-fit : (m L : ℕ) → 2 * m ≤ L → L < 2 ^ 64 → Fits w64 m
+numbers-fit m L h f = omega arith

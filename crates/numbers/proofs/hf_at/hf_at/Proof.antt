@@ -3,13 +3,18 @@ use lib.ListN.{drop, length, replicate, take}
 use lib.Seq.{length-front, length-take-le}
 use mathlib.Core.List.{List, _++_}
 use mathlib.Core.Path.{_≡_, _∙_, ap, sym}
+use mir.Syntax.{w64}
+use mir.Val.{Fits}
 use native.Mathlib.Nat.{le-of-eq, le-trans}
 use native.Mathlib.Omega.{arith}
 use Rattle.numbers.proofs.HilbertCall.{gives, refuses-degree, refuses-room, refuses-value, refuses-width}
 use Rattle.numbers.proofs.KeptSums.{sum-is, sum-large}
-use borrow.Author.Needs.{needs}
+use Rattle.numbers.proofs.ToLaws.{degree-fits}
 use Rattle.numbers.proofs.hf_at.hf_at.Statement.{statement}
 use Rattle.numbers.proofs.hf_at.hf_at.Tie as tie
+
+asked-fits : (d : ℕ) → d ≤ 65536 → Fits w64 (4 * (d + 1))
+asked-fits d h = omega arith
 
 half : (d z : ℕ) → z ≡ 4 * (d + 1) → 2 * (d + 1) ≤ z
 half d z e = omega arith
@@ -29,14 +34,14 @@ hf-at-spec =
     -- returns-2
     (λ c. let p1 = c .before in let p2 = p1 .before in let a = p2 .before .before .args in refuses-degree 255 65536 (a .n) (a .coeffs .now) (a .d) (a .sums .now) (p2 .if1 .left) (c .refused2 .result) (p1 .if2 .taken) (c .refused2 .ensures))
     -- add-asked
-    (λ c. search needs)
+    (λ c. degree-fits (c .before .before .before .args .d) (c .if2 .left))
     -- mul-asked
-    (λ c. search needs)
+    (λ c. asked-fits (c .before .before .before .args .d) (c .if2 .left))
     (λ c κs. tt)
     -- returns-3
     (λ c. let p1 = c .before in let p2 = p1 .before in let p3 = p2 .before in let a = p3 .before .before .args in refuses-room 255 65536 (a .n) (a .coeffs .now) (a .d) (a .sums .now) (p3 .if1 .left) (p2 .if2 .left) (c .refused3 .result) (p1 .if3 .taken) (c .refused3 .ensures))
     -- slice-relend-prefix-prefix-sum
-    (λ c. search needs)
+    (λ c. c .if3 .left)
     -- slice-aggregate-prefix-sum
     (λ c. let p1 = c .before in let a = p1 .before .before .before .before .args in sym (length-take-le (4 * (a .d + 1)) (a .sums .now) (p1 .if3 .left)))
     -- prefix-sum-requires
@@ -44,20 +49,20 @@ hf-at-spec =
     (λ c κs. tt)
     (λ c κs. tt)
     -- same-length
-    (λ c. search needs)
+    (λ c. let q = c .before .before .before .before .before in let a = q .before .before .before .before .before .before .args in length-front (a .sums .now) (q .prefix-sum .last .1 .1 .1 .1 .0) (4 * (a .d + 1)) (q .prefix-sum .kept .1 .1 .1 .1 .0))
     -- returns-4
     (λ c. let p1 = c .before in let q = p1 .before .before .before .before in let p3 = q .before .before in let p2 = p3 .before in let p0 = p2 .before in let a = p0 .before .before .args in
     let k = length-take-le (4 * (a .d + 1)) (a .sums .now) (p3 .if3 .left) in
     let s = sum-large (a .n) (a .coeffs .now) (a .d) (q .prefix-sum .result) (q .prefix-sum .ensures .1 .0) (q .prefix-sum .ensures .0) in
     refuses-value 255 65536 (a .n) (a .coeffs .now) (a .d) (a .sums .now) (p0 .if1 .left) (p2 .if2 .left) (p3 .if3 .left) (q .prefix-sum .last .1 .1 .1 .1 .0) (q .prefix-sum .ensures .1 .1 ∙ ap (λ (z : ℕ). replicate z 0) k) (c .refused4 .result) (sym s ∙ rw (p1 .before .is-large .ensures) at (p1 .if4 .taken)) (c .refused4 .ensures))
     -- slice-relend-prefix-prefix-sum-2
-    (λ c. search needs)
+    (λ c. let q = c .before .before .before .before in let p3 = q .before .before in let a = p3 .before .before .before .before .args in le-trans (p3 .if3 .left) (le-of-eq (sym (length-front (a .sums .now) (q .prefix-sum .last .1 .1 .1 .1 .0) (4 * (a .d + 1)) (q .prefix-sum .kept .1 .1 .1 .1 .0)))))
     -- slice-aggregate-prefix-sum-2
     (λ c. let q = c .before .before .before .before .before in let p3 = q .before .before in let a = p3 .before .before .before .before .args in sym (again (a .sums .now) (q .prefix-sum .last .1 .1 .1 .1 .0) (4 * (a .d + 1)) (p3 .if3 .left) (q .prefix-sum .kept .1 .1 .1 .1 .0)))
     -- prefix-sum-requires-2
     (λ c κs. let q = c .before .before .before .before .before in let p3 = q .before .before in let a = p3 .before .before .before .before .args in half (a .d) (length (take (4 * (a .d + 1)) ((q .prefix-sum .last .1 .1 .1 .1 .0) ++ drop (4 * (a .d + 1)) (a .sums .now)))) (again (a .sums .now) (q .prefix-sum .last .1 .1 .1 .1 .0) (4 * (a .d + 1)) (p3 .if3 .left) (q .prefix-sum .kept .1 .1 .1 .1 .0)))
     -- same-length-2
-    (λ c. search needs)
+    (λ c. let v = c .before .before in let q = v .before .before .before .before .before .before in let a = q .before .before .before .before .before .before .args in length-front ((q .prefix-sum .last .1 .1 .1 .1 .0) ++ drop (4 * (a .d + 1)) (a .sums .now)) (v .prefix-sum2 .last .1 .1 .1 .1 .0) (4 * (a .d + 1)) (v .prefix-sum2 .kept .1 .1 .1 .1 .0) ∙ length-front (a .sums .now) (q .prefix-sum .last .1 .1 .1 .1 .0) (4 * (a .d + 1)) (q .prefix-sum .kept .1 .1 .1 .1 .0))
     -- returns-5
     (λ c. let v = c .before .before in let p4 = v .before .before in let q = p4 .before .before .before .before in let p3 = q .before .before in let p2 = p3 .before in let p0 = p2 .before in let a = p0 .before .before .args in
     let s = sum-large (a .n) (a .coeffs .now) (a .d) (q .prefix-sum .result) (q .prefix-sum .ensures .1 .0) (q .prefix-sum .ensures .0) in
