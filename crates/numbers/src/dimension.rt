@@ -23,7 +23,7 @@ ghost use Rattle.laws.specs.Ideal.{listed};
 ghost use Rattle.laws.specs.Room.{cellsAsked, coefficientsAsked, dimensionWords};
 ghost use Rattle.monomials.specs.Refusal.{refusal as refusalOf, after};
 ghost use Rattle.numbers.specs.Dimension.{dimensionAnswer, dimensionRoom, dimensionFirst, dimensionSecond, dimensionSums, dimensionIs};
-ghost use Rattle.numbers.specs.DimensionParts.{Cells, Bounded, Lent, roomRefusal};
+ghost use Rattle.numbers.specs.DimensionParts.{Cells, Bounded, Lent, listAnswer, roomRefusal};
 ghost use Rattle.numbers.specs.Numerator.{wiped};
 ghost use Rattle.numbers.specs.Wide.{wide};
 
@@ -60,26 +60,34 @@ pub fn quotient_dimension(
     ensures { λ r. do ⌜ now (second .exit) ≡ dimensionSecond (← ⟦MAX_WIDTH⟧ .entry) (← ⟦MAX_COUNT⟧ .entry) (← ⟦MAX_DEGREE⟧ .entry) n s (now (cells .entry)) (now (room .entry)) (now (first .entry)) (now (second .entry)) (now (sums .entry)) ⌝ }
     ensures { λ r. do ⌜ now (sums .exit) ≡ dimensionSums (← ⟦MAX_WIDTH⟧ .entry) (← ⟦MAX_COUNT⟧ .entry) (← ⟦MAX_DEGREE⟧ .entry) n s (now (cells .entry)) (now (room .entry)) (now (first .entry)) (now (second .entry)) (now (sums .entry)) ⌝ }
 {
-    if MAX_WIDTH < n {
-        return refused(Refusal::Width);
-    }
-    if MAX_COUNT < s {
-        return refused(Refusal::Count);
-    }
-    if cells.len() != s * n {
-        return refused(Refusal::Cells);
-    }
-    if has_unit(n, s, cells) {
-        return answered(Wide::ZERO, 0);
-    }
-    if n == 0 {
-        return answered(Wide::ONE, 0);
-    }
-    let c = checked_bound(n, s, cells);
+    let c = decided(n, s, cells);
     match c {
         Checked::Bound(d) => in_rooms(n, s, cells, d, room, first, second, sums),
+        Checked::Known(dimension) => answered(dimension, 0),
         Checked::Refused(r) => refused(r),
     }
+}
+
+// What the list alone decides.
+fn decided(n: usize, s: usize, cells: &[u16]) -> Checked
+    ensures { λ r. do ⌜ r ≡ listAnswer (← ⟦MAX_WIDTH⟧ .entry) (← ⟦MAX_COUNT⟧ .entry) (← ⟦MAX_DEGREE⟧ .entry) n s (now (cells .entry)) ⌝ }
+{
+    if MAX_WIDTH < n {
+        return Checked::Refused(Refusal::Width);
+    }
+    if MAX_COUNT < s {
+        return Checked::Refused(Refusal::Count);
+    }
+    if cells.len() != s * n {
+        return Checked::Refused(Refusal::Cells);
+    }
+    if has_unit(n, s, cells) {
+        return Checked::Known(Wide::ZERO);
+    }
+    if n == 0 {
+        return Checked::Known(Wide::ONE);
+    }
+    checked_bound(n, s, cells)
 }
 
 // The refusal as an answer.

@@ -12,16 +12,15 @@ ghost use mathlib.Core.Path.{_≡_};
 ghost use Prim.Native.Nat.{ℕ, _*_, _<_, _≤_};
 ghost use lib.Dec.{eqb};
 ghost use lib.ListN.{length, getD};
-ghost use Rattle.laws.specs.Dimension.{degreeBound, purePower, lesser as lesserOf};
+ghost use Rattle.laws.specs.Dimension.{purePower, lesser as lesserOf};
 ghost use Rattle.laws.specs.Ideal.{listed, unitIn};
-ghost use Rattle.monomials.specs.Refusal.{refusal as refusalOf};
-ghost use Rattle.numbers.specs.Dimension.{boundChecks};
-ghost use Rattle.numbers.specs.DimensionParts.{Cells, BoundOf, checkedIs};
+ghost use Rattle.numbers.specs.DimensionParts.{Cells, BoundOf, boundAnswer};
 ghost use Rattle.numbers.specs.Wide.{productAnswer};
 
-// The degree bound, or a refusal.
+// The degree bound, a dimension that is known without it, or a refusal.
 pub(crate) enum Checked {
     Bound(usize),
+    Known(Wide),
     Refused(Refusal),
 }
 
@@ -43,7 +42,7 @@ pub(crate) fn has_unit(n: usize, s: usize, cells: &[u16]) -> bool
 // The degree bound, unless there is no dimension or the product of the least powers reaches 2^127.
 pub(crate) fn checked_bound(n: usize, s: usize, cells: &[u16]) -> Checked
     requires { ⌜ Cells n s (now cells) ⌝ }
-    ensures { λ r. do ⌜ r ≡ checkedIs (refusalOf (boundChecks (← ⟦MAX_DEGREE⟧ .entry) n (listed n s (now (cells .entry))))) (degreeBound n (listed n s (now (cells .entry)))) ⌝ }
+    ensures { λ r. do ⌜ r ≡ boundAnswer (← ⟦MAX_DEGREE⟧ .entry) n (listed n s (now (cells .entry))) ⌝ }
 {
     let mut powers = [0u16; MAX_WIDTH];
     let mut i = s;
