@@ -70,7 +70,7 @@ pub fn quotient_dimension(
 
 // What the list alone decides.
 fn decided(n: usize, s: usize, cells: &[u16]) -> Checked
-    ensures { λ r. do ⌜ r ≡ listAnswer (← ⟦MAX_WIDTH⟧ .entry) (← ⟦MAX_COUNT⟧ .entry) (← ⟦MAX_DEGREE⟧ .entry) n s (now (cells .entry)) ⌝ }
+    ensures { λ r. ⌜ r ≡ listAnswer 255 60 65536 n s (now (cells .entry)) ⌝ }
 {
     if MAX_WIDTH < n {
         return Checked::Refused(Refusal::Width);

@@ -42,7 +42,7 @@ pub(crate) fn has_unit(n: usize, s: usize, cells: &[u16]) -> bool
 // The degree bound, unless there is no dimension or the product of the least powers reaches 2^127.
 pub(crate) fn checked_bound(n: usize, s: usize, cells: &[u16]) -> Checked
     requires { ⌜ Cells n s (now cells) ⌝ }
-    ensures { λ r. do ⌜ r ≡ boundAnswer (← ⟦MAX_DEGREE⟧ .entry) n (listed n s (now (cells .entry))) ⌝ }
+    ensures { λ r. ⌜ r ≡ boundAnswer 65536 n (listed n s (now (cells .entry))) ⌝ }
 {
     let mut powers = [0u16; MAX_WIDTH];
     let mut i = s;
@@ -85,7 +85,7 @@ fn lesser(d: usize, x: u16, y: u16) -> u16
 // The degree bound by the least powers of the n variables.
 fn bound_of(n: usize, powers: &[u16]) -> Checked
     requires { ⌜ (n ≤ length (now powers)) × (n ≤ 65536) ⌝ }
-    ensures { λ r. do ⌜ BoundOf (← ⟦MAX_DEGREE⟧ .entry) n (now (powers .entry)) r ⌝ }
+    ensures { λ r. ⌜ BoundOf 65536 n (now (powers .entry)) r ⌝ }
 {
     let mut d: usize = 0;
     let mut product = Product::Exact(Wide::ONE);
