@@ -1,9 +1,7 @@
-use Prim.Native.Nat.{_+_, _-_, _≤_, ℕ}
+use Prim.Native.Nat.{_+_, _-_, ℕ}
 use lib.IntN.{pos}
 use lib.ListN.{length, replicate}
 use mathlib.Core.Path.{_∙_, ap, sym}
-use mir.Syntax.{w64}
-use mir.Val.{Fits}
 use native.Mathlib.Nat.{le-of-eq}
 use native.Mathlib.Numerals.{add-one}
 use native.Mathlib.Omega.{arith}
@@ -17,9 +15,6 @@ use Rattle.numbers.proofs.KeptSums.{sum-is}
 use Rattle.numbers.proofs.dimension.dimension_in.Statement.{statement}
 use Rattle.numbers.proofs.dimension.dimension_in.Tie as tie
 
-width-fits : (n : ℕ) → n ≤ 255 → Fits w64 (n + 1)
-width-fits n h = omega arith
-
 pub dimension-in-spec : {M : Type 1} → statement M
 dimension-in-spec =
     tie.close
@@ -27,7 +22,7 @@ dimension-in-spec =
     -- numerator-in-requires
     (λ c κs. let p6 = c .before .before .before .before .before .before in ((p6 .pre .0 .0 .there, p6 .pre .0 .0 .width, p6 .pre .0 .0 .count, enough (p6 .args .n) (p6 .args .s) (p6 .args .cells .now) (p6 .args .room .now) (p6 .pre .1 .cells)), (p6 .pre .1 .first, p6 .pre .1 .second ∙ sym (p6 .pre .1 .first))))
     -- add-prefix-sum
-    (λ c. let p = c .before .before .before .before .before .before .before .before .before .before .before in width-fits (p .args .n) (p .pre .0 .0 .width))
+    (λ c. let p = c .before .before .before .before .before .before .before .before .before .before .before in omega (arith, p .pre .0 .0 .width))
     -- prefix-sum-requires
     (λ c κs. let p = c .before .before .before .before .before .before .before .before .before .before .before .before .before in le-of-eq (sym (p .pre .1 .words)))
     (λ c κs. tt)

@@ -3,18 +3,12 @@ use lib.ListN.{drop, length, replicate, take}
 use lib.Seq.{length-front, length-take-le}
 use mathlib.Core.List.{List, _++_}
 use mathlib.Core.Path.{_≡_, _∙_, ap, sym}
-use mir.Syntax.{w64}
-use mir.Val.{Fits}
 use native.Mathlib.Nat.{le-of-eq, le-trans}
 use native.Mathlib.Omega.{arith}
 use Rattle.numbers.proofs.HilbertCall.{gives, refuses-degree, refuses-room, refuses-value, refuses-width}
 use Rattle.numbers.proofs.KeptSums.{sum-is, sum-large}
-use Rattle.numbers.proofs.ToLaws.{degree-fits}
 use Rattle.numbers.proofs.hf_at.hf_at.Statement.{statement}
 use Rattle.numbers.proofs.hf_at.hf_at.Tie as tie
-
-asked-fits : (d : ℕ) → d ≤ 65536 → Fits w64 (4 * (d + 1))
-asked-fits d h = omega arith
 
 half : (d z : ℕ) → z ≡ 4 * (d + 1) → 2 * (d + 1) ≤ z
 half d z e = omega arith
@@ -34,9 +28,9 @@ hf-at-spec =
     -- returns-2
     (λ c. let p1 = c .before in let p2 = p1 .before in let a = p2 .before .before .args in refuses-degree 255 65536 (a .n) (a .coeffs .now) (a .d) (a .sums .now) (p2 .if1 .left) (c .refused2 .result) (p1 .if2 .taken) (c .refused2 .ensures))
     -- add-asked
-    (λ c. degree-fits (c .before .before .before .args .d) (c .if2 .left))
+    (λ c. omega (arith, c .if2 .left))
     -- mul-asked
-    (λ c. asked-fits (c .before .before .before .args .d) (c .if2 .left))
+    (λ c. omega (arith, c .if2 .left))
     (λ c κs. tt)
     -- returns-3
     (λ c. let p1 = c .before in let p2 = p1 .before in let p3 = p2 .before in let a = p3 .before .before .args in refuses-room 255 65536 (a .n) (a .coeffs .now) (a .d) (a .sums .now) (p3 .if1 .left) (p2 .if2 .left) (c .refused3 .result) (p1 .if3 .taken) (c .refused3 .ensures))
