@@ -40,14 +40,16 @@ pub fn hf_at(n: usize, coeffs: &[i64], d: usize, sums: &mut [u64]) -> SignedAnsw
     if MAX_DEGREE < d {
         return refused(Refusal::Degree);
     }
+    let half = 2 * (d + 1);
     let asked = 4 * (d + 1);
     if sums.len() < asked {
         return refused(Refusal::SumRoom);
     }
-    if prefix_sum(Terms::Magnitudes, n, coeffs, d, &mut sums[..asked]).is_large() {
+    let size = prefix_sum(Terms::Magnitudes, n, coeffs, d, &mut sums[..half]);
+    let value = prefix_sum(Terms::Signed, n, coeffs, d, &mut sums[..asked]);
+    if size.is_large() {
         return refused(Refusal::Value);
     }
-    let value = prefix_sum(Terms::Signed, n, coeffs, d, &mut sums[..asked]);
     SignedAnswer {
         outcome: SignedOutcome::Value(value),
     }
