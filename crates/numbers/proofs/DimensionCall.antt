@@ -5,93 +5,55 @@
 -- Assumes nothing.
 use mathlib.Core.Path.{_≡_, refl, sym, ap, _∙_}
 use mathlib.Core.Logic.{_≢_, _⊎_}
-use mathlib.Core.Bool.{Bool, true, false, not, _||_, false≢true}
+use mathlib.Core.Bool.{Bool, true, false, not, _||_, cond, false≢true}
 use mathlib.Core.List.{List, [], _∷_, _++_, append-nil}
 use mathlib.Core.Option.{Option, none, some}
-use Prim.Native.Nat.{ℕ, zero, suc, _+_, _*_, _^_, _≤_, _<_}
-use native.Mathlib.Nat.{le-trans}
+use Prim.Native.Nat.{ℕ, zero, suc, _*_, _%_, _^_, _≤_, _<_}
+use native.Mathlib.Nat.{le-trans, mod-eq-of-lt, mod-mod}
 use native.Mathlib.Omega.{arith}
-use lib.Dec.{leb, ltb, lit≤}
+use lib.Dec.{leb, ltb, eqb, lit<, lit≤}
 use lib.IntN.{ℤ, pos}
-use lib.ListN.{length, replicate, drop, getD}
-use borrow.Author.Tests.{lt-ltb, le-ltb, eq-eqb, ne-eqb, ltb-false, leb-false, le-leb, lt-leb}
+use lib.ListN.{length, replicate, drop}
+use borrow.Author.Tests.{lt-ltb, le-ltb, eq-eqb, ne-eqb, eqb-true, ltb-false, leb-false}
 use Rattle.laws.specs.Ideal.{listed, Within, unitIn}
 use Rattle.laws.specs.Coefficients.{coefficient}
 use Rattle.laws.specs.Count.{HF}
 use Rattle.laws.specs.Numerator.{numerator}
-use Rattle.laws.specs.Sums.{sumBelow, sumsℤ}
+use Rattle.laws.specs.Sums.{sum, sumsℤ}
 use Rattle.laws.specs.Word.{residue}
 use Rattle.laws.specs.Dimension.{finite, degreeBound, powersProduct, dimension, topDegree}
 use Rattle.laws.specs.Room.{cellsAsked, coefficientsAsked, dimensionWords}
 use Rattle.laws.proofs.Ideal.{listed-width}
 use Rattle.laws.proofs.Coefficients.{coefficient-padded}
-use Rattle.laws.proofs.Sums.{sums-ext}
-use Rattle.laws.proofs.Asked.{sumBelow-ext}
-use Rattle.laws.proofs.Dimension.{finite-power, dimension-unit, dimension-no-variables, hf-residue, dimension-below}
-use Rattle.monomials.specs.Refusal.{Check, refusal, after}
+use Rattle.laws.proofs.Sums.{sums-ext, residue-sum}
+use Rattle.laws.proofs.Word.{residue-lt}
+use Rattle.laws.proofs.Dimension.{dimension-unit, dimension-no-variables, hf-residue, dimension-sum}
+use Rattle.monomials.specs.Refusal.{Check, refusal, after, tooWide}
 use Rattle.monomials.specs.declared.refusal.Refusal.{Refusal}
-use Rattle.monomials.specs.declared.refusal.Refusal.the-variants.{Width, Count, Cells as CellsOut, CellRoom, CoefficientRoom, SumRoom, Dimension, Value}
-use Rattle.numbers.specs.Wide.{wide, productAnswer}
-use Rattle.numbers.specs.HilbertParts.{numberAt}
-use Rattle.numbers.specs.Numerator.{wiped}
+use Rattle.monomials.specs.declared.refusal.Refusal.the-variants.{Width, Count, Cells as CellsOut, CellRoom, CoefficientRoom, SumRoom}
+use Rattle.numbers.specs.Wide.{wide, wideOf}
+use Rattle.numbers.specs.Numerator.{wiped, tooMany, notCells, listChecks}
 use Rattle.numbers.specs.Dimension.{dimensionIs, atOnce, noDimension, boundChecks, roomChecks, dimensionChecks, dimensionAnswer, dimensionRoom, dimensionFirst, dimensionSecond, dimensionSums}
-use Rattle.numbers.specs.DimensionParts.{Bounded, Powers, boundAnswer, checkedIs}
+use Rattle.numbers.specs.DimensionParts.{Bounded, checkedIs, boundAnswer, listAnswer}
 use Rattle.numbers.specs.declared.wide.Wide.{Wide}
-use Rattle.numbers.specs.declared.wide.Product.{Product}
-use Rattle.numbers.specs.declared.wide.Product.the-variants.{Exact, Passed}
-use Rattle.numbers.specs.declared.powers.Bound.{Bound}
-use Rattle.numbers.specs.declared.powers.Bound.the-variants.{At, None}
-use Rattle.numbers.specs.declared.dimension.Checked.{Checked}
+use Rattle.numbers.specs.declared.powers.Checked.{Checked}
 use Rattle.numbers.specs.declared.dimension.DimensionOutcome.{DimensionOutcome}
 use Rattle.numbers.specs.declared.dimension.DimensionAnswer.{DimensionAnswer}
-use Rattle.numbers.proofs.LeastPowers.{product-exact, product-passed}
 use Rattle.numbers.proofs.ToLaws.{either-short}
+use Rattle.numbers.proofs.TwoWords.{wide-mod}
 
 -- the checks 13 and 11
 
-or-none : (a b : Bool) → (not a || b) ≡ false → (a ≡ true) × (b ≡ false)
-or-none true b e = (refl, e)
-or-none false b e = absurd (false≢true (sym e))
+no-other : (a b : Bool) → (not a || b) ≡ false → (a ≡ true) × (b ≡ false)
+no-other true b e = (refl, e)
+no-other false b e = absurd (false≢true (sym e))
 
 module _ (M n : ℕ) (L : List (List ℕ)) where
   -- a list that passes 13
   pub has-dimension : noDimension M n L ≡ false → (finite n L ≡ true) × (degreeBound n L ≤ M)
   has-dimension e =
-      let (f, l) = or-none (finite n L) (ltb M (degreeBound n L)) e in
+      let (f, l) = no-other (finite n L) (ltb M (degreeBound n L)) e in
       (f, ltb-false M (degreeBound n L) l)
-
-  -- what the degree bound's answer says
-  module _ (b : Bound) (e : b ≡ boundAnswer M n L) where
-    pub bound-none : b ≡ None → noDimension M n L ≡ true
-    bound-none g = go (noDimension M n L) refl
-      where
-        go : (t : Bool) → noDimension M n L ≡ t → t ≡ true
-        go true h = refl
-        go false h = let z : _≡_ {A = ℕ} 0 1 = cc (rw h at e) in absurd (omega arith)
-
-    pub bound-at : (d : ℕ) → b ≡ At d → (noDimension M n L ≡ false) × (d ≡ degreeBound n L)
-    bound-at d g = go (noDimension M n L) refl
-      where
-        go : (t : Bool) → noDimension M n L ≡ t → (t ≡ false) × (d ≡ degreeBound n L)
-        go true h = let z : _≡_ {A = ℕ} 0 1 = cc (rw h at e) in absurd (omega arith)
-        go false h = (refl, cc (rw h at e))
-
-    pub checked-none : b ≡ None → Checked.Refused Dimension ≡ checkedIs (refusal (boundChecks M n L)) (degreeBound n L)
-    checked-none g = rw (bound-none g)
-
-    -- and that of the product
-    module _ (d : ℕ) (g : b ≡ At d) (p : Product) (f : p ≡ productAnswer (powersProduct n L)) where
-      pub checked-passed : p ≡ Passed → Checked.Refused Value ≡ checkedIs (refusal (boundChecks M n L)) (degreeBound n L)
-      checked-passed h =
-          rw (bound-at d g .0, le-leb (2 ^ 127) (powersProduct n L) (product-passed (powersProduct n L) (sym f ∙ h)))
-
-      pub checked-exact : (w : Wide) → p ≡ Exact w → Checked.Bound d ≡ checkedIs (refusal (boundChecks M n L)) (degreeBound n L)
-      checked-exact w h =
-          rw (bound-at d g .0, lt-leb (2 ^ 127) (powersProduct n L) (product-exact (powersProduct n L) w (sym f ∙ h) .0)) (ap Checked.Bound (bound-at d g .1))
-
-  -- each variable has a power
-  pub powers-there : (powers : List ℕ) → Powers n L powers → noDimension M n L ≡ false → (v : ℕ) → v < n → getD powers v 0 ≢ 0
-  powers-there powers p e v h z = finite-power n L v (has-dimension e .0) h (sym (p v h) ∙ z)
 
   -- a list that passes both
   pub bounded : (d : ℕ) → unitIn L ≡ false → M ≤ 65536 → refusal (boundChecks M n L) ≡ none → d ≡ degreeBound n L → Bounded n L d
@@ -104,29 +66,49 @@ module _ (M n : ℕ) (L : List (List ℕ)) where
           let (f, l) = has-dimension h in
           record { plain = u; powers = f; bound = k; small = rw k (le-trans l m); product = leb-false (2 ^ 127) (powersProduct n L) g }
 
--- a bound or a refusal, read back
+-- what the list decides, read back
 
-pub checked-bound : (o : Option Refusal) (b d : ℕ) → checkedIs o b ≡ Checked.Bound d → (o ≡ none) × (d ≡ b)
-checked-bound none b d e = (refl, cc)
-checked-bound (some r) b d e = let z : _≡_ {A = ℕ} 0 1 = cc in absurd (omega arith)
+module _ (o : Option Refusal) (t : Bool) (w b : ℕ) where
+  pub is-bound : (d : ℕ) → checkedIs o t w b ≡ Checked.Bound d → (o ≡ none) × (t ≡ false) × (d ≡ b)
+  is-bound d e = go o t refl refl
+    where
+      go : (x : Option Refusal) (y : Bool) → o ≡ x → t ≡ y → (o ≡ none) × (t ≡ false) × (d ≡ b)
+      go none true h g = let z : _≡_ {A = ℕ} 0 1 = cc (rw (h, g) at e) in absurd (omega arith)
+      go none false h g = (h, g, cc (rw (h, g) at e))
+      go (some r) y h g = let z : _≡_ {A = ℕ} 0 1 = cc (rw h at e) in absurd (omega arith)
 
-pub checked-refused : (o : Option Refusal) (b : ℕ) (r : Refusal) → checkedIs o b ≡ Checked.Refused r → o ≡ some r
-checked-refused none b r e = let z : _≡_ {A = ℕ} 0 1 = cc in absurd (omega arith)
-checked-refused (some x) b r e = ap some (cc)
+  pub is-known : (x : Wide) → checkedIs o t w b ≡ Checked.Known x → (o ≡ none) × (t ≡ true) × (x ≡ wide w)
+  is-known v e = go o t refl refl
+    where
+      go : (x : Option Refusal) (y : Bool) → o ≡ x → t ≡ y → (o ≡ none) × (t ≡ true) × (v ≡ wide w)
+      go none true h g = (h, g, cc (rw (h, g) at e))
+      go none false h g = let z : _≡_ {A = ℕ} 0 1 = cc (rw (h, g) at e) in absurd (omega arith)
+      go (some r) y h g = let z : _≡_ {A = ℕ} 0 1 = cc (rw h at e) in absurd (omega arith)
+
+  pub is-refused : (r : Refusal) → checkedIs o t w b ≡ Checked.Refused r → o ≡ some r
+  is-refused r e = go o t refl refl
+    where
+      go : (x : Option Refusal) (y : Bool) → o ≡ x → t ≡ y → o ≡ some r
+      go none true h g = let z : _≡_ {A = ℕ} 0 1 = cc (rw (h, g) at e) in absurd (omega arith)
+      go none false h g = let z : _≡_ {A = ℕ} 0 1 = cc (rw (h, g) at e) in absurd (omega arith)
+      go (some x) y h g = h ∙ ap some (cc (rw h at e))
 
 -- counting
 
 module _ (n d : ℕ) (L : List (List ℕ)) (b : Bounded n L d) where
-  -- the sums modulo 2^128 are the Hilbert function
-  pub values : Within n L → (p : List ℤ) (j : ℕ) → p ≡ numerator L ++ replicate j (pos 0) → (k : ℕ) → k < d + 1 → residue (2 ^ 128) (sumsℤ n (coefficient p) k) ≡ HF L n k
+  -- the n-fold sums modulo 2^128 are the Hilbert function
+  values : Within n L → (p : List ℤ) (j : ℕ) → p ≡ numerator L ++ replicate j (pos 0) → (k : ℕ) → k < suc d → residue (2 ^ 128) (sumsℤ n (coefficient p) k) ≡ HF L n k
   values w p j e k h =
       ap (residue (2 ^ 128)) (sums-ext n (coefficient p) (coefficient (numerator L)) (λ i. ap (λ (l : List ℤ). coefficient l i) e ∙ coefficient-padded (numerator L) j i) k)
       ∙ hf-residue n L (b .powers) (2 ^ 128) (le-trans (b .product) (lit≤ tt)) k w (omega (arith, b .bound))
 
-  -- and their total is the dimension
-  pub counted : (words : List ℕ) (r : Wide) → ((k : ℕ) → k < d + 1 → numberAt words k ≡ HF L n k) → r ≡ wide (sumBelow (d + 1) (numberAt words)) → r ≡ wide (dimension n L)
-  counted words r h e =
-      e ∙ ap wide (sumBelow-ext (d + 1) (numberAt words) (HF L n) h ∙ ap (λ (k : ℕ). sumBelow (k + 1) (HF L n)) (b .bound) ∙ dimension-below n L)
+  -- and their sum is the dimension
+  pub counted : Within n L → (p : List ℤ) (j : ℕ) → p ≡ numerator L ++ replicate j (pos 0) → (r : Wide) → r ≡ wideOf (sumsℤ (suc n) (coefficient p) d) → r ≡ wide (dimension n L)
+  counted w p j e r g =
+      g
+      ∙ ap wide (sym (residue-sum (2 ^ 128) (lit< tt) (suc d) (sumsℤ n (coefficient p)) (HF L n) (λ k h. let v = values w p j e k h in rw (← v) (mod-eq-of-lt (residue-lt (2 ^ 128) (lit< tt) (sumsℤ n (coefficient p) k)))) d (omega arith)))
+      ∙ wide-mod (sum (HF L n) d % 2 ^ 128) (sum (HF L n) d) (mod-mod (sum (HF L n) d) (2 ^ 128))
+      ∙ ap wide (ap (sum (HF L n)) (b .bound) ∙ sym (dimension-sum n L))
 
 -- the rooms' checks
 
@@ -210,10 +192,70 @@ refusal-then (x ∷ xs) ys e = go (x .0) refl (refusal-then xs ys)
     go true h f = let z : _≡_ {A = ℕ} 0 1 = cc (rw h at e) in absurd (omega arith)
     go false h f = rw h (f (rw h at e))
 
+-- no check refuses
+refusal-none : (x : Check) (xs : List Check) → refusal (x ∷ xs) ≡ none → (x .0 ≡ false) × (refusal xs ≡ none)
+refusal-none x xs e = go (x .0) refl
+  where
+    go : (t : Bool) → x .0 ≡ t → (t ≡ false) × (refusal xs ≡ none)
+    go true h = let z : _≡_ {A = ℕ} 0 1 = cc (rw h at e) in absurd (omega arith)
+    go false h = (refl, rw h at e)
+
+not-false : (t : Bool) → not t ≡ false → t ≡ true
+not-false true e = refl
+not-false false e = absurd (false≢true (sym e))
+
+neither : (a b : Bool) → (a || b) ≡ false → (a ≡ false) × (b ≡ false)
+neither true b e = absurd (false≢true (sym e))
+neither false b e = (refl, e)
+
 -- without variables
-no-variables : (n s : ℕ) (cells : List ℕ) → n ≡ 0 → unitIn (listed n s cells) ≡ false → length cells ≡ s * n → (dimension n (listed n s cells) ≡ 1) × (topDegree n (listed n s cells) ≡ 0)
-no-variables zero s cells z u f = (dimension-no-variables (listed 0 s cells) u (listed-width 0 s cells (omega arith)), rw u)
+no-variables : (n s : ℕ) (cells : List ℕ) → n ≡ 0 → unitIn (listed n s cells) ≡ false → length cells ≡ s * n → dimension n (listed n s cells) ≡ 1
+no-variables zero s cells z u f = dimension-no-variables (listed 0 s cells) u (listed-width 0 s cells (omega arith))
 no-variables (suc n) s cells z u f = absurd (omega arith)
+
+-- what the list alone decides
+
+module _ (W C M n s : ℕ) (cells : List ℕ) where
+  pub decides-width : W < n → Checked.Refused Width ≡ listAnswer W C M n s cells
+  decides-width h = rw (lt-ltb W n h)
+
+  pub decides-count : n ≤ W → C < s → Checked.Refused Count ≡ listAnswer W C M n s cells
+  decides-count h g = rw (le-ltb W n h, lt-ltb C s g)
+
+  pub decides-cells : n ≤ W → s ≤ C → length cells ≢ s * n → Checked.Refused CellsOut ≡ listAnswer W C M n s cells
+  decides-cells h g f = rw (le-ltb W n h, le-ltb C s g, ne-eqb (length cells) (s * n) f)
+
+  module _ (h : n ≤ W) (g : s ≤ C) (f : length cells ≡ s * n) where
+    pub decides-unit : unitIn (listed n s cells) ≡ true → Checked.Known (wide 0) ≡ listAnswer W C M n s cells
+    decides-unit u =
+        rw (le-ltb W n h, le-ltb C s g, eq-eqb (length cells) (s * n) f, u) (ap (λ (x : ℕ). Checked.Known (wide x)) (sym (dimension-unit n (listed n s cells) u)))
+
+    pub decides-one : unitIn (listed n s cells) ≡ false → n ≡ 0 → Checked.Known (wide 1) ≡ listAnswer W C M n s cells
+    decides-one u z =
+        rw (le-ltb W n h, le-ltb C s g, eq-eqb (length cells) (s * n) f, u, eq-eqb n 0 z) (ap (λ (x : ℕ). Checked.Known (wide x)) (sym (no-variables n s cells z u f)))
+
+    pub decides-bound : unitIn (listed n s cells) ≡ false → n ≢ 0 → boundAnswer M n (listed n s cells) ≡ listAnswer W C M n s cells
+    decides-bound u z = rw (le-ltb W n h, le-ltb C s g, eq-eqb (length cells) (s * n) f, u, ne-eqb n 0 z)
+
+  -- the checks that it passes
+  abbrev pub decides : Option Refusal
+  decides = refusal (listChecks W C n s cells ++ cond (atOnce n (listed n s cells)) [] (boundChecks M n (listed n s cells)))
+
+  module _ (e : decides ≡ none) where
+    pub is-list : (n ≤ W) × (s ≤ C) × (length cells ≡ s * n)
+    is-list =
+        let (a, b) = refusal-none (tooWide W n) (tooMany C s ∷ notCells n s cells ∷ cond (atOnce n (listed n s cells)) [] (boundChecks M n (listed n s cells))) e in
+        let (c, d) = refusal-none (tooMany C s) (notCells n s cells ∷ cond (atOnce n (listed n s cells)) [] (boundChecks M n (listed n s cells))) b in
+        let (i, j) = refusal-none (notCells n s cells) (cond (atOnce n (listed n s cells)) [] (boundChecks M n (listed n s cells))) d in
+        (ltb-false W n a, ltb-false C s c, eqb-true (length cells) (s * n) (not-false (eqb (length cells) (s * n)) i))
+
+    pub is-plain : atOnce n (listed n s cells) ≡ false → unitIn (listed n s cells) ≡ false
+    is-plain o = neither (unitIn (listed n s cells)) (eqb n 0) o .0
+
+    pub passes-bound : atOnce n (listed n s cells) ≡ false → refusal (boundChecks M n (listed n s cells)) ≡ none
+    passes-bound o =
+        let (a, b, c) = is-list in
+        rw (le-ltb W n a, le-ltb C s b, eq-eqb (length cells) (s * n) c, o) at e
 
 module _ (W C M n s : ℕ) (cells room : List ℕ) (p q : List ℤ) (sums : List ℕ) where
   abbrev pub Outcome : DimensionAnswer → List ℕ → List ℤ → List ℤ → List ℕ → Type 0
@@ -227,40 +269,27 @@ module _ (W C M n s : ℕ) (cells room : List ℕ) (p q : List ℤ) (sums : List
   refuses : (x : Refusal) (r : DimensionAnswer) → refusal (dimensionChecks W C M n s cells room p q sums) ≡ some x → r ≡ record { outcome = DimensionOutcome.Refused x } → Outcome r room p q sums
   refuses x r e h = (rw e h, (rw e, (rw e, (rw e, rw e))))
 
-  pub refuses-width : (r : DimensionAnswer) → W < n → r ≡ record { outcome = DimensionOutcome.Refused Width } → Outcome r room p q sums
-  refuses-width r h e = refuses Width r (rw (lt-ltb W n h)) e
+  pub refuses-list : (x : Refusal) (r : DimensionAnswer) → decides W C M n s cells ≡ some x → r ≡ record { outcome = DimensionOutcome.Refused x } → Outcome r room p q sums
+  refuses-list x r e = go (atOnce n (listed n s cells)) refl
+    where
+      go : (t : Bool) → atOnce n (listed n s cells) ≡ t → r ≡ record { outcome = DimensionOutcome.Refused x } → Outcome r room p q sums
+      go true o = refuses x r (rw o (rw o at e))
+      go false o = refuses x r (rw o (refusal-first (listChecks W C n s cells ++ boundChecks M n (listed n s cells)) (roomChecks n (listed n s cells) room p q sums) x (rw o at e)))
 
-  pub refuses-count : (r : DimensionAnswer) → n ≤ W → C < s → r ≡ record { outcome = DimensionOutcome.Refused Count } → Outcome r room p q sums
-  refuses-count r h g e = refuses Count r (rw (le-ltb W n h, lt-ltb C s g)) e
+  module _ (e : decides W C M n s cells ≡ none) where
+    no-degree : atOnce n (listed n s cells) ≡ true → topDegree n (listed n s cells) ≡ 0
+    no-degree o = go (unitIn (listed n s cells)) refl
+      where
+        go : (t : Bool) → unitIn (listed n s cells) ≡ t → topDegree n (listed n s cells) ≡ 0
+        go true u = rw u
+        go false u = let z : n ≡ 0 = eqb-true n 0 (rw u at o) in rw (u, z)
 
-  pub refuses-cells : (r : DimensionAnswer) → n ≤ W → s ≤ C → (length cells ≡ s * n → ⊥) → r ≡ record { outcome = DimensionOutcome.Refused CellsOut } → Outcome r room p q sums
-  refuses-cells r h g f e = refuses CellsOut r (rw (le-ltb W n h, le-ltb C s g, ne-eqb (length cells) (s * n) f)) e
+    pub gives-known : (r : DimensionAnswer) (v : Wide) → atOnce n (listed n s cells) ≡ true → v ≡ wide (dimension n (listed n s cells)) → r ≡ record { outcome = DimensionOutcome.Value (record { dimension = v; top = 0 }) } → Outcome r room p q sums
+    gives-known r v o f g =
+        let a : refusal (dimensionChecks W C M n s cells room p q sums) ≡ none = rw o (rw o at e) in
+        (rw (a, no-degree o) (g ∙ rw f), (rw (a, o), (rw (a, o), (rw (a, o), rw (a, o)))))
 
-  module _ (h : n ≤ W) (g : s ≤ C) (f : length cells ≡ s * n) where
-    module _ (once : atOnce n (listed n s cells) ≡ true) where
-      answers : refusal (dimensionChecks W C M n s cells room p q sums) ≡ none
-      answers = rw (le-ltb W n h, le-ltb C s g, eq-eqb (length cells) (s * n) f, once)
-
-      at-once : (r : DimensionAnswer) → r ≡ record { outcome = DimensionOutcome.Value (record { dimension = wide (dimension n (listed n s cells)); top = topDegree n (listed n s cells) }) }
-          → Outcome r room p q sums
-      at-once r e = (rw answers e, (rw (answers, once), (rw (answers, once), (rw (answers, once), rw (answers, once)))))
-
-    pub gives-unit : (r : DimensionAnswer) → unitIn (listed n s cells) ≡ true → r ≡ record { outcome = DimensionOutcome.Value (record { dimension = wide 0; top = 0 }) } → Outcome r room p q sums
-    gives-unit r u e = at-once (rw u) r (rw (dimension-unit n (listed n s cells) u, u) e)
-
-    pub gives-one : (r : DimensionAnswer) → unitIn (listed n s cells) ≡ false → n ≡ 0 → r ≡ record { outcome = DimensionOutcome.Value (record { dimension = wide 1; top = 0 }) } → Outcome r room p q sums
-    gives-one r u z e = let (a, b) = no-variables n s cells z u f in at-once (rw u (eq-eqb n 0 z)) r (rw (a, b) e)
-
-    module _ (u : unitIn (listed n s cells) ≡ false) (z : n ≢ 0) where
-      goes-on : refusal (dimensionChecks W C M n s cells room p q sums) ≡ refusal (boundChecks M n (listed n s cells) ++ roomChecks n (listed n s cells) room p q sums)
-      goes-on = rw (le-ltb W n h, le-ltb C s g, eq-eqb (length cells) (s * n) f, u, ne-eqb n 0 z)
-
-      pub refuses-bound : (x : Refusal) (r : DimensionAnswer) → refusal (boundChecks M n (listed n s cells)) ≡ some x → r ≡ record { outcome = DimensionOutcome.Refused x } → Outcome r room p q sums
-      refuses-bound x r e =
-          refuses x r (goes-on ∙ refusal-first (boundChecks M n (listed n s cells)) (roomChecks n (listed n s cells) room p q sums) x e)
-
-      pub leaves : (r : DimensionAnswer) (a : List ℕ) (b d : List ℤ) (e : List ℕ) → refusal (boundChecks M n (listed n s cells)) ≡ none → Left n (listed n s cells) room p q sums r a b d e → Outcome r a b d e
-      leaves r a b d e i l =
-          let o : refusal (dimensionChecks W C M n s cells room p q sums) ≡ refusal (roomChecks n (listed n s cells) room p q sums) = goes-on ∙ refusal-then (boundChecks M n (listed n s cells)) (roomChecks n (listed n s cells) room p q sums) i in
-          let m : atOnce n (listed n s cells) ≡ false = rw u (ne-eqb n 0 z) in
-          (rw o (l .0), (rw (o, m) (l .1 .0), (rw (o, m) (l .1 .1 .0), (rw (o, m) (l .1 .1 .1 .0), rw (o, m) (l .1 .1 .1 .1)))))
+    pub leaves : (r : DimensionAnswer) (a : List ℕ) (b d : List ℤ) (c : List ℕ) → atOnce n (listed n s cells) ≡ false → Left n (listed n s cells) room p q sums r a b d c → Outcome r a b d c
+    leaves r a b d c o l =
+        let m : refusal (dimensionChecks W C M n s cells room p q sums) ≡ refusal (roomChecks n (listed n s cells) room p q sums) = rw o (refusal-then (listChecks W C n s cells ++ boundChecks M n (listed n s cells)) (roomChecks n (listed n s cells) room p q sums) (rw o at e)) in
+        (rw m (l .0), (rw (m, o) (l .1 .0), (rw (m, o) (l .1 .1 .0), (rw (m, o) (l .1 .1 .1 .0), rw (m, o) (l .1 .1 .1 .1)))))

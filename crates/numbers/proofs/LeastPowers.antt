@@ -4,51 +4,30 @@ use mathlib.Core.Logic.{_≢_}
 use mathlib.Core.Bool.{Bool, true, false}
 use mathlib.Core.List.{List, _∷_}
 use Prim.Native.Nat.{ℕ, _+_, _*_, _-_, _^_, _<_, _≤_}
-use native.Mathlib.Nat.{le-of-eq, le-trans, mul-comm}
-use native.Mathlib.Numerals.{add-one}
+use native.Mathlib.Nat.{le-of-eq, le-trans, le-mul-of-pos-right, mul-comm}
 use native.Mathlib.Omega.{arith}
 use lib.Dec.{ltb, lit≤}
 use lib.ListN.{length, getD}
-use borrow.Author.Tests.{lt-ltb, le-ltb, ltb-true, ltb-false, eq-eqb, ne-eqb}
+use borrow.Author.Tests.{lt-ltb, le-ltb, lt-leb, le-leb, ltb-true, ltb-false, eq-eqb, ne-eqb}
 use Rattle.laws.specs.Monomial.{degree}
 use Rattle.laws.specs.Ideal.{listed, unitIn}
 use Rattle.laws.specs.Sums.{sumBelow, productBelow}
-use Rattle.laws.specs.Dimension.{purePower, lesser, leastPower, finite, degreeBound}
+use Rattle.laws.specs.Dimension.{purePower, lesser, leastPower, finite, degreeBound, powersProduct}
 use Rattle.laws.proofs.Monomial.{not-true}
 use Rattle.laws.proofs.Ideal.{listedFrom, listed-all, listed-next, listed-none}
 use Rattle.laws.proofs.Rows.{at, at-length, part-is}
-use Rattle.laws.proofs.Sums.{productBelow-le}
+use Rattle.laws.proofs.Sums.{productBelow-ext}
 use Rattle.laws.proofs.Asked.{sumBelow-ext}
 use Rattle.laws.proofs.Dimension.{finite-power, power-finite}
+use Rattle.monomials.specs.declared.refusal.Refusal.the-variants.{Dimension, Value}
 use Rattle.numbers.specs.Wide.{value, wide, productAnswer}
 use Rattle.numbers.specs.DimensionParts.{Cells, Powers, BoundOf}
 use Rattle.numbers.specs.declared.wide.Wide.{Wide}
 use Rattle.numbers.specs.declared.wide.Product.{Product}
 use Rattle.numbers.specs.declared.wide.Product.the-variants.{Exact, Passed}
-use Rattle.numbers.specs.declared.powers.Bound.the-variants.{At, None}
+use Rattle.numbers.specs.declared.powers.Checked.{Checked}
 use Rattle.numbers.proofs.Steps.{row-in}
 use Rattle.numbers.proofs.TwoWords.{value-exact, passes}
-
-module _ (M n : ℕ) (powers : List ℕ) where
-  -- a variable has no power
-  pub bound-missing : (v : ℕ) → v < n → getD powers v 0 ≡ 0 → BoundOf M n powers None
-  bound-missing v h z L p =
-      let e : finite n L ≡ false = not-true (finite n L) (λ t. finite-power n L v t h (sym (p v h) ∙ z)) in
-      rw e
-
-  -- each has one
-  module _ (d : ℕ) (e : d ≡ sumBelow n (λ v. getD powers v 0 - 1)) (some : (v : ℕ) → v < n → getD powers v 0 ≢ 0) where
-    all : (L : List (List ℕ)) → Powers n L powers → finite n L ≡ true
-    all L p = power-finite n L (λ v h z. some v h (p v h ∙ z))
-
-    bound : (L : List (List ℕ)) → Powers n L powers → d ≡ degreeBound n L
-    bound L p = e ∙ sumBelow-ext n (λ v. getD powers v 0 - 1) (λ v. leastPower L v - 1) (λ v h. ap (λ (x : ℕ). x - 1) (p v h))
-
-    pub bound-large : M < d → BoundOf M n powers None
-    bound-large h L p = rw (all L p, ← bound L p, lt-ltb M d h)
-
-    pub bound-small : d ≤ M → BoundOf M n powers (At d)
-    bound-small h L p = rw (all L p, ← bound L p, le-ltb M d h)
 
 -- what a product's answer says
 
@@ -66,21 +45,48 @@ product-passed q e = go (ltb q (2 ^ 127)) refl
     go true l = let z : _≡_ {A = ℕ} 0 1 = cc (rw l at e) in absurd (omega arith)
     go false l = ltb-false q (2 ^ 127) l
 
--- the product of the first v values, and one more
-module _ (f : ℕ → ℕ) (v : ℕ) (t : Wide) (x : ℕ) (p : Product) (h : t ≡ wide (productBelow v f)) (small : productBelow v f < 2 ^ 127) (e : x ≡ f v) (a : p ≡ productAnswer (value t * x)) where
-  next : p ≡ productAnswer (productBelow (v + 1) f)
-  next =
-      let k : value t ≡ productBelow v f = ap value h ∙ value-exact (productBelow v f) (le-trans small (lit≤ tt)) in
-      let m : value t * x ≡ productBelow (v + 1) f = rw (add-one v, k, e) (mul-comm (productBelow v f) (f v)) in
-      a ∙ ap productAnswer m
+-- a product and one factor more
+module _ (q x : ℕ) (a : Product) (e : a ≡ productAnswer q) where
+  pub times-exact : (w : Wide) (r : Product) → a ≡ Exact w → r ≡ productAnswer (value w * x) → r ≡ productAnswer (x * q)
+  times-exact w r g h =
+      let (l, k) = product-exact q w (sym e ∙ g) in
+      let v : value w ≡ q = ap value k ∙ value-exact q (le-trans l (lit≤ tt)) in
+      h ∙ ap productAnswer (ap (λ (y : ℕ). y * x) v ∙ mul-comm q x)
 
-  pub product-next : (w : Wide) → p ≡ Exact w → (w ≡ wide (productBelow (v + 1) f)) × (productBelow (v + 1) f < 2 ^ 127)
-  product-next w g = let (i, j) = product-exact (productBelow (v + 1) f) w (sym next ∙ g) in (j, i)
+  pub times-passed : x ≢ 0 → a ≡ Passed → Passed ≡ productAnswer (x * q)
+  times-passed n g = passes (x * q) (le-trans (product-passed q (sym e ∙ g)) (rw (mul-comm x q) (le-mul-of-pos-right q (omega arith))))
 
-  -- no later factor is 0
-  pub product-over : (n : ℕ) → v < n → ((j : ℕ) → j < n → f j ≢ 0) → p ≡ Passed → Passed ≡ productAnswer (productBelow n f)
-  product-over n l some g =
-      passes (productBelow n f) (le-trans (product-passed (productBelow (v + 1) f) (sym next ∙ g)) (productBelow-le n (v + 1) f some (rw (add-one v) l)))
+-- the checks 13 and 11 by the least powers
+
+module _ (M n : ℕ) (powers : List ℕ) where
+  -- a variable has no power
+  pub bound-missing : (v : ℕ) → v < n → getD powers v 0 ≡ 0 → BoundOf M n powers (Checked.Refused Dimension)
+  bound-missing v h z L p =
+      let e : finite n L ≡ false = not-true (finite n L) (λ t. finite-power n L v t h (sym (p v h) ∙ z)) in
+      rw e
+
+  -- each has one
+  module _ (d : ℕ) (e : d ≡ sumBelow n (λ v. getD powers v 0 - 1)) (some : (v : ℕ) → v < n → getD powers v 0 ≢ 0) where
+    all : (L : List (List ℕ)) → Powers n L powers → finite n L ≡ true
+    all L p = power-finite n L (λ v h z. some v h (p v h ∙ z))
+
+    bound : (L : List (List ℕ)) → Powers n L powers → d ≡ degreeBound n L
+    bound L p = e ∙ sumBelow-ext n (λ v. getD powers v 0 - 1) (λ v. leastPower L v - 1) (λ v h. ap (λ (x : ℕ). x - 1) (p v h))
+
+    pub bound-large : M < d → BoundOf M n powers (Checked.Refused Dimension)
+    bound-large h L p = rw (all L p, ← bound L p, lt-ltb M d h)
+
+    module _ (h : d ≤ M) (a : Product) (f : a ≡ productAnswer (productBelow n (λ v. getD powers v 0))) where
+      answer : (L : List (List ℕ)) → Powers n L powers → a ≡ productAnswer (powersProduct n L)
+      answer L p = f ∙ ap productAnswer (productBelow-ext n (λ v. getD powers v 0) (leastPower L) p)
+
+      pub bound-passed : a ≡ Passed → BoundOf M n powers (Checked.Refused Value)
+      bound-passed g L p =
+          rw (all L p, ← bound L p, le-ltb M d h, le-leb (2 ^ 127) (powersProduct n L) (product-passed (powersProduct n L) (sym (answer L p) ∙ g)))
+
+      pub bound-exact : (w : Wide) → a ≡ Exact w → BoundOf M n powers (Checked.Bound d)
+      bound-exact w g L p =
+          rw (all L p, ← bound L p, le-ltb M d h, lt-leb (2 ^ 127) (powersProduct n L) (product-exact (powersProduct n L) w (sym (answer L p) ∙ g) .0))
 
 -- the listed monomials in their cells, one after the other: a is number i
 module _ (n s : ℕ) (cells : List ℕ) (c : Cells n s cells) (i : ℕ) where
@@ -115,7 +121,3 @@ module _ (n s : ℕ) (cells : List ℕ) (c : Cells n s cells) (i : ℕ) where
 
   pub powers-all : (v x : ℕ) → i ≡ 0 → x ≡ leastPower (listedFrom n s i cells) v → x ≡ leastPower (listed n s cells) v
   powers-all v x z e = e ∙ ap (λ (L : List (List ℕ)). leastPower L v) (ap (λ (k : ℕ). listedFrom n s k cells) z ∙ listed-all n s cells)
-
--- all are multiplied
-pub product-all : (f : ℕ → ℕ) (n : ℕ) (t : Wide) → t ≡ wide (productBelow n f) → productBelow n f < 2 ^ 127 → Exact t ≡ productAnswer (productBelow n f)
-product-all f n t e l = rw (lt-ltb (productBelow n f) (2 ^ 127) l) (ap Exact e)

@@ -3,15 +3,13 @@ mod Bits
 mod Steps
 mod ToLaws
 mod TwoWords
-mod Capped
+mod KeptSums
 mod Numbers
-mod Settled
 mod MaskArray
 mod HilbertCall
 mod NumeratorCall
 mod UpdateCall
 mod LeastPowers
-mod WideSums
 mod DimensionCall
 mod FewRows
 pub mod SignedValue

@@ -1,21 +1,18 @@
--- Lists of two-word numbers, two words each, one of which is written; and what stands past them. Assumes nothing.
-use mathlib.Core.Path.{_≡_, sym, ap, ap₂, _∙_}
+-- Lists of two-word numbers, two words each: which there are, and one that is written. Assumes nothing.
+use mathlib.Core.Path.{_≡_, ap, ap₂, _∙_}
 use mathlib.Core.Logic.{_≢_}
-use mathlib.Core.List.{List, _++_}
-use Prim.Native.Nat.{ℕ, suc, _+_, _*_, _-_, _^_, _<_, _≤_, suc-le-suc}
-use native.Mathlib.Nat.{le-trans, min-le-right}
+use mathlib.Core.List.{List}
+use Prim.Native.Nat.{ℕ, _+_, _*_, _^_, _<_, _≤_}
 use native.Mathlib.Omega.{arith}
-use lib.Dec.{lit≤}
-use lib.ListN.{length, getD, set, drop, length-set}
-use lib.Seq.{getD-set-same, getD-set-other, drop-append-add, drop-drop}
+use mir.Syntax.{w64}
+use mir.Val.{Fits}
+use lib.ListN.{length, getD, set, length-set}
+use lib.Seq.{getD-set-same, getD-set-other}
 use borrow.Author.Count.{below-more}
 use Rattle.laws.specs.Word.{pair}
-use Rattle.laws.specs.Sums.{sumBelow}
-use Rattle.laws.proofs.Sums.{capped-more}
-use Rattle.numbers.specs.Wide.{value, wide}
-use Rattle.numbers.specs.HilbertParts.{numberAt, capped}
+use Rattle.numbers.specs.Wide.{value}
+use Rattle.numbers.specs.HilbertParts.{numberAt}
 use Rattle.numbers.specs.declared.wide.Wide.{Wide}
-use Rattle.numbers.proofs.TwoWords.{value-exact}
 
 -- xs with w for its number k
 abbrev pub put : List ℕ → ℕ → Wide → List ℕ
@@ -36,24 +33,18 @@ put-other xs k j w n = ap₂ (pair (2 ^ 64)) (kept (2 * j) (omega arith) (omega 
     kept i a b = getD-set-other (set xs (2 * k) (w .low)) (2 * k + 1) i (w .high) 0 b ∙ getD-set-other xs (2 * k) i (w .low) 0 a
 
 module _ (xs ys : List ℕ) (k : ℕ) (w : Wide) (f : ℕ → ℕ) (h : 2 * k + 1 < length xs) (e : ys ≡ put xs k w) where
-  -- what holds of the numbers before k, and of w, holds of those before k + 1
-  pub put-more : value w ≡ f k → ((j : ℕ) → j < k → numberAt xs j ≡ f j) → (j : ℕ) → j < k + 1 → numberAt ys j ≡ f j
-  put-more v b =
-      below-more (λ j. numberAt ys j ≡ f j) k (λ j l. rw e (put-other xs k j w (omega arith) ∙ b j l)) (rw e (put-same xs k w h ∙ v))
+  -- what is kept of the numbers before k, and of w, is kept of those before k + 1
+  pub put-more : (g : ℕ → ℕ) → g (value w) ≡ f k → ((j : ℕ) → j < k → g (numberAt xs j) ≡ f j) → (j : ℕ) → j < k + 1 → g (numberAt ys j) ≡ f j
+  put-more g v b =
+      below-more (λ j. g (numberAt ys j) ≡ f j) k (λ j l. rw e (ap g (put-other xs k j w (omega arith)) ∙ b j l)) (rw e (ap g (put-same xs k w h) ∙ v))
 
   -- and what holds of those from k on holds of those from k + 1 on
   pub put-rest : ((j : ℕ) → k ≤ j → numberAt xs j ≡ f j) → (j : ℕ) → k + 1 ≤ j → numberAt ys j ≡ f j
   put-rest b j l = rw e (put-other xs k j w (omega arith) ∙ b j (omega arith))
 
--- a sum held down, one term more
-pub total-more : (f : ℕ → ℕ) (k : ℕ) (t x r : Wide) → value t ≡ capped (sumBelow k f) → value x ≡ f k → r ≡ wide (capped (value t + value x)) → value r ≡ capped (sumBelow (suc k) f)
-total-more f k t x r a b e =
-    let m : capped (value t + value x) ≡ capped (sumBelow (suc k) f) = rw (a, b) (capped-more (2 ^ 127) (sumBelow k f) (f k)) in
-    rw (e, m) (value-exact (capped (sumBelow (suc k) f)) (le-trans (suc-le-suc (min-le-right (sumBelow (suc k) f) (2 ^ 127))) (lit≤ tt)))
+-- number k of the first m, in a list of K words that is as long as one of L
+pub number-in : (k m L K : ℕ) → k < m → 2 * m ≤ L → K ≡ L → 2 * k + 1 < K
+number-in k m L K h l e = omega arith
 
--- a front that was lent leaves what stands past it
-pub past-front : (xs ys : List ℕ) (h e : ℕ) → h ≤ e → length ys ≡ h → drop e (ys ++ drop h xs) ≡ drop e xs
-past-front xs ys h e k l =
-    let q : length ys + (e - h) ≡ e = omega arith in
-    let r : h + (e - h) ≡ e = omega arith in
-    ap (λ (j : ℕ). drop j (ys ++ drop h xs)) (sym q) ∙ drop-append-add ys (drop h xs) (e - h) ∙ drop-drop (e - h) h xs ∙ ap (λ (j : ℕ). drop j xs) r
+pub numbers-fit : (m L : ℕ) → 2 * m ≤ L → L < 2 ^ 64 → Fits w64 m
+numbers-fit m L h f = omega arith

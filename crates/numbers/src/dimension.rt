@@ -3,32 +3,27 @@
 use crate::asked::cells_asked;
 use crate::asked::coefficients_asked;
 use crate::hf_at::MAX_DEGREE;
-use crate::hf_at::wipe;
+use crate::hf_at::Terms;
+use crate::hf_at::prefix_sum;
 use crate::leaf::least;
 use crate::leaf::zero;
 use crate::numerator::numerator_in;
-use crate::powers::Bound;
-use crate::powers::degree_bound;
+use crate::powers::Checked;
+use crate::powers::checked_bound;
 use crate::powers::has_unit;
-use crate::powers::least_powers;
-use crate::powers::powers_product;
-use crate::totals::prefix_sums;
-use crate::totals::total;
-use crate::wide::Product;
 use crate::wide::Wide;
 use monomials::refusal::MAX_COUNT;
 use monomials::refusal::MAX_WIDTH;
 use monomials::refusal::Refusal;
 ghost use mathlib.Core.Path.{_≡_};
-ghost use Prim.Native.Nat.{_≤_};
 ghost use lib.IntN.{pos};
 ghost use lib.ListN.{length, replicate};
 ghost use Rattle.laws.specs.Dimension.{degreeBound, dimension as dimensionOf};
 ghost use Rattle.laws.specs.Ideal.{listed};
 ghost use Rattle.laws.specs.Room.{cellsAsked, coefficientsAsked, dimensionWords};
 ghost use Rattle.monomials.specs.Refusal.{refusal as refusalOf, after};
-ghost use Rattle.numbers.specs.Dimension.{dimensionAnswer, dimensionRoom, dimensionFirst, dimensionSecond, dimensionSums, dimensionIs, boundChecks};
-ghost use Rattle.numbers.specs.DimensionParts.{Cells, Bounded, Lent, checkedIs, roomRefusal};
+ghost use Rattle.numbers.specs.Dimension.{dimensionAnswer, dimensionRoom, dimensionFirst, dimensionSecond, dimensionSums, dimensionIs};
+ghost use Rattle.numbers.specs.DimensionParts.{Cells, Bounded, Lent, listAnswer, roomRefusal};
 ghost use Rattle.numbers.specs.Numerator.{wiped};
 ghost use Rattle.numbers.specs.Wide.{wide};
 
@@ -48,12 +43,6 @@ pub struct DimensionAnswer {
     pub outcome: DimensionOutcome,
 }
 
-// The degree bound, or a refusal.
-enum Checked {
-    Bound(usize),
-    Refused(Refusal),
-}
-
 // How many monomials in n variables are no multiple of the s monomials in `cells`. With a unit it is 0, and without variables 1: these ask no
 // room. Otherwise every room is left at zero in its asked part.
 pub fn quotient_dimension(
@@ -71,26 +60,34 @@ pub fn quotient_dimension(
     ensures { λ r. do ⌜ now (second .exit) ≡ dimensionSecond (← ⟦MAX_WIDTH⟧ .entry) (← ⟦MAX_COUNT⟧ .entry) (← ⟦MAX_DEGREE⟧ .entry) n s (now (cells .entry)) (now (room .entry)) (now (first .entry)) (now (second .entry)) (now (sums .entry)) ⌝ }
     ensures { λ r. do ⌜ now (sums .exit) ≡ dimensionSums (← ⟦MAX_WIDTH⟧ .entry) (← ⟦MAX_COUNT⟧ .entry) (← ⟦MAX_DEGREE⟧ .entry) n s (now (cells .entry)) (now (room .entry)) (now (first .entry)) (now (second .entry)) (now (sums .entry)) ⌝ }
 {
-    if MAX_WIDTH < n {
-        return refused(Refusal::Width);
-    }
-    if MAX_COUNT < s {
-        return refused(Refusal::Count);
-    }
-    if cells.len() != s * n {
-        return refused(Refusal::Cells);
-    }
-    if has_unit(n, s, cells) {
-        return answered(Wide::ZERO, 0);
-    }
-    if n == 0 {
-        return answered(Wide::ONE, 0);
-    }
-    let c = checked_bound(n, s, cells);
+    let c = decided(n, s, cells);
     match c {
         Checked::Bound(d) => in_rooms(n, s, cells, d, room, first, second, sums),
+        Checked::Known(dimension) => answered(dimension, 0),
         Checked::Refused(r) => refused(r),
     }
+}
+
+// What the list alone decides.
+fn decided(n: usize, s: usize, cells: &[u16]) -> Checked
+    ensures { λ r. ⌜ r ≡ listAnswer 255 60 65536 n s (now (cells .entry)) ⌝ }
+{
+    if MAX_WIDTH < n {
+        return Checked::Refused(Refusal::Width);
+    }
+    if MAX_COUNT < s {
+        return Checked::Refused(Refusal::Count);
+    }
+    if cells.len() != s * n {
+        return Checked::Refused(Refusal::Cells);
+    }
+    if has_unit(n, s, cells) {
+        return Checked::Known(Wide::ZERO);
+    }
+    if n == 0 {
+        return Checked::Known(Wide::ONE);
+    }
+    checked_bound(n, s, cells)
 }
 
 // The refusal as an answer.
@@ -112,24 +109,6 @@ fn answered(dimension: Wide, top: u64) -> DimensionAnswer
             top: top,
         }),
     }
-}
-
-// The degree bound, unless there is no dimension or the product of the least powers reaches 2^127.
-fn checked_bound(n: usize, s: usize, cells: &[u16]) -> Checked
-    requires { ⌜ Cells n s (now cells) × (n ≤ 255) ⌝ }
-    ensures { λ r. do ⌜ r ≡ checkedIs (refusalOf (boundChecks (← ⟦MAX_DEGREE⟧ .entry) n (listed n s (now (cells .entry))))) (degreeBound n (listed n s (now (cells .entry)))) ⌝ }
-{
-    let mut powers = [0u16; MAX_WIDTH];
-    least_powers(n, s, cells, &mut powers);
-    let b = degree_bound(n, &powers);
-    let Bound::At(d) = b else {
-        return Checked::Refused(Refusal::Dimension);
-    };
-    let p = powers_product(n, &powers);
-    let Product::Exact(_) = p else {
-        return Checked::Refused(Refusal::Value);
-    };
-    Checked::Bound(d)
 }
 
 // The dimension of a list whose degree bound is d, where the rooms suffice.
@@ -195,10 +174,7 @@ fn dimension_in(
     ensures { λ _. ⌜ now (sums .exit) ≡ replicate (length (now (sums .entry))) 0 ⌝ }
 {
     numerator_in(n, s, cells, room, first, second);
-    let count = d + 1;
-    prefix_sums(n, first, count, sums);
-    let r = total(count, sums);
+    let r = prefix_sum(Terms::Signed, n + 1, first, d, sums);
     zero(first);
-    wipe(sums, 2 * count);
     r
 }

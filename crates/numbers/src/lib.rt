@@ -17,6 +17,5 @@ mod powers;
 mod quotients;
 mod rows;
 pub mod signed;
-mod totals;
 pub mod update;
 pub mod wide;

@@ -1,18 +1,19 @@
-use mathlib.Core.Path.{_≡_}
-use mathlib.Core.List.{_++_}
 use Prim.Native.Nat.{_-_, _≤_}
-use native.Mathlib.Omega.{arith}
-use lib.ListN.{length, replicate, drop}
 use borrow.Author.Fill.{fill-more}
 use borrow.Author.Needs.{needs}
+use lib.ListN.{drop, length, length-set, replicate}
+use mathlib.Core.List.{_++_}
+use mathlib.Core.Path.{_≡_}
+use native.Mathlib.Omega.{arith}
+use Rattle.laws.proofs.Rows.{filled}
 use Rattle.numbers.proofs.hf_at.wipe.Statement.{statement}
 use Rattle.numbers.proofs.hf_at.wipe.Tie as tie
 
 abbrev Inv-loop : tie.InvT-loop
-Inv-loop words₀ count i₀ words i = (i ≤ count) × (count ≤ length words₀) × (length words ≡ length words₀) × (words ≡ replicate i 0 ++ drop i words₀)
+Inv-loop words₀ i₀ words i = (i ≤ length words₀) × (length words ≡ length words₀) × (words ≡ replicate i 0 ++ drop i words₀)
 
 abbrev μ-loop : tie.MeasureT-loop
-μ-loop words₀ count i₀ words i = count - i
+μ-loop words₀ i₀ words i = length words₀ - i
 
 pub wipe-spec : {M : Type 1} → statement M
 wipe-spec =
@@ -25,6 +26,8 @@ wipe-spec =
     (λ c. search needs)
     (λ c. search needs)
     (λ c. search needs)
-    (λ c. (search needs, search needs, search needs, rw (c .before .loop .inv .3) (fill-more (c .before .loop .i) 0 (c .before .before .args .words .now) (omega arith))))
+    -- loop-again
+    (λ c. let p1 = c .before in let p2 = p1 .before in (omega arith, simp length-set (omega arith), rw (p1 .loop .inv .2) (fill-more (p1 .loop .i) 0 (p2 .args .words .now) (omega arith))))
     (λ c. search needs)
-    (λ c. let e : c .before .loop .i ≡ c .before .before .args .count = omega arith in rw e at (c .before .loop .inv .3)))
+    -- returns
+    (λ c. let p1 = c .before in let p2 = p1 .before in filled (p1 .loop .i) (p2 .args .words .now) (p1 .loop .words) (p1 .loop .inv .0) (omega arith) (p1 .loop .inv .2)))
