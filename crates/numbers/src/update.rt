@@ -29,8 +29,7 @@ ghost use Rattle.laws.specs.Numerator.{update};
 ghost use Rattle.laws.specs.Room.{updateAsked};
 ghost use Rattle.laws.proofs.Added.{AddedTo, Zeros};
 ghost use Rattle.laws.proofs.Asked.{Lists, both};
-ghost use Rattle.laws.proofs.Rows.{at};
-ghost use Rattle.laws.proofs.Grown.{grown, taken};
+ghost use Rattle.laws.proofs.Grown.{grown};
 ghost use Rattle.numbers.specs.Update.{beyond as beyondOf, updateAnswer, updateRoom, updateFirst, updateSecond};
 
 // The greatest magnitude of a given coefficient: 2^61.
@@ -120,30 +119,7 @@ fn update_asked(n: usize, given: &[i64], s: usize, xs: &[u16], t: usize, ys: &[u
     if k < given.len() { given.len() } else { k }
 }
 
-// One new monomial, number t in ys: t^deg times the numerator of the earlier ones' quotients by it is taken off.
-fn add_generator(
-    n: usize,
-    s: usize,
-    xs: &[u16],
-    t: usize,
-    ys: &[u16],
-    room: &mut [u16],
-    first: &mut [i64],
-    second: &mut [i64],
-)
-    requires { ⌜ (length (now xs) ≡ s * n) × ((t + 1) * n ≤ length (now ys)) × (n ≤ 65536) × (s + t ≤ 4096) × ((s + t) * (s + t) * n ≤ length (now room)) ⌝ }
-    requires { ⌜ (length (now second) ≡ length (now first)) × Zeros (now second) ⌝ }
-    ensures { λ _. ⌜ AddedTo (taken (both n s (now (xs .entry)) t (now (ys .entry))) (at n t (now (ys .entry)))) (now (first .entry)) (now (first .exit)) ⌝ }
-    ensures { λ _. ⌜ (length (now (second .exit)) ≡ length (now (second .entry))) × Zeros (now (second .exit)) ⌝ }
-{
-    let g = row(ys, n, t);
-    let m = quotients(room, n, s, xs, t, ys, g);
-    let d = degree(g);
-    let minus = [-1i64; 1];
-    add_numerator(room, n, m, d, &minus, 0, first, second);
-}
-
-// All t new monomials in ys, one after another.
+// The new monomials in ys, one after another: for each, t^deg times the numerator of the earlier ones' quotients by it is taken off.
 fn add_each(
     n: usize,
     s: usize,
@@ -159,9 +135,12 @@ fn add_each(
     ensures { λ _. ⌜ AddedTo (grown (listed n s (now (xs .entry))) (listed n t (now (ys .entry)))) (now (first .entry)) (now (first .exit)) ⌝ }
     ensures { λ _. ⌜ (length (now (second .exit)) ≡ length (now (second .entry))) × Zeros (now (second .exit)) ⌝ }
 {
+    let minus = [-1i64; 1];
     let mut i: usize = 0;
     while i < t {
-        add_generator(n, s, xs, i, ys, room, first, second);
+        let g = row(ys, n, i);
+        let m = quotients(room, n, s, xs, i, ys, g);
+        add_numerator(room, n, m, degree(g), &minus, 0, first, second);
         i += 1;
     }
 }
