@@ -9,6 +9,8 @@ mod Settled
 mod MaskArray
 mod HilbertCall
 mod NumeratorCall
+mod AskedCells
+mod RoomsCall
 mod UpdateCall
 mod LeastPowers
 mod WideSums
