@@ -10,6 +10,7 @@ mod MaskArray
 mod HilbertCall
 mod NumeratorCall
 mod AskedCells
+mod QuotientCells
 mod RoomsCall
 mod UpdateCall
 mod LeastPowers
