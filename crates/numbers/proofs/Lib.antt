@@ -8,6 +8,9 @@ mod Numbers
 mod MaskArray
 mod HilbertCall
 mod NumeratorCall
+mod AskedCells
+mod QuotientCells
+mod RoomsCall
 mod UpdateCall
 mod LeastPowers
 mod DimensionCall

@@ -1,11 +1,10 @@
 // The dimension of a list's quotient: how many monomials are no multiple of the list. They are counted degree by degree, from the numerator
 // by prefix sums modulo 2^128; the count is exact, because it is at most the product of the least powers, which is below 2^127.
-use crate::asked::cells_asked;
-use crate::asked::coefficients_asked;
+use crate::asked::Rooms;
+use crate::asked::checked;
 use crate::hf_at::MAX_DEGREE;
 use crate::hf_at::Terms;
 use crate::hf_at::prefix_sum;
-use crate::leaf::least;
 use crate::leaf::zero;
 use crate::numerator::numerator_in;
 use crate::powers::Checked;
@@ -129,29 +128,40 @@ fn in_rooms(
     ensures { λ _. ⌜ now (second .exit) ≡ after (roomRefusal n s (now (cells .entry)) (now (room .entry)) (now (first .entry)) (now (second .entry)) (now (sums .entry))) (wiped (pos 0) (coefficientsAsked (listed n s (now (cells .entry)))) (now (second .entry))) (now (second .entry)) ⌝ }
     ensures { λ _. ⌜ now (sums .exit) ≡ after (roomRefusal n s (now (cells .entry)) (now (room .entry)) (now (first .entry)) (now (second .entry)) (now (sums .entry))) (wiped 0 (dimensionWords (degreeBound n (listed n s (now (cells .entry))))) (now (sums .entry))) (now (sums .entry)) ⌝ }
 {
-    let c = cells_asked(n, s, cells, 0, cells);
-    if room.len() < c {
-        return refused(Refusal::CellRoom);
-    }
-    let k = coefficients_asked(n, s, cells, 0, cells);
-    if least(first.len(), second.len()) < k {
-        return refused(Refusal::CoefficientRoom);
-    }
-    let w = 2 * (d + 1);
-    if sums.len() < w {
-        return refused(Refusal::SumRoom);
-    }
-    let r = dimension_in(
+    let rooms = checked(
         n,
         s,
         cells,
-        d,
-        &mut room[..c],
-        &mut first[..k],
-        &mut second[..k],
-        &mut sums[..w],
+        0,
+        &cells[0..0],
+        false,
+        0,
+        room.len(),
+        first.len(),
+        second.len(),
     );
-    answered(r, d as u64)
+    match rooms {
+        Rooms::Asked(a) => {
+            let c = a.cells;
+            let k = a.coefficients;
+            let w = 2 * (d + 1);
+            if sums.len() < w {
+                return refused(Refusal::SumRoom);
+            }
+            let r = dimension_in(
+                n,
+                s,
+                cells,
+                d,
+                &mut room[..c],
+                &mut first[..k],
+                &mut second[..k],
+                &mut sums[..w],
+            );
+            answered(r, d as u64)
+        }
+        Rooms::Refused(r) => refused(r),
+    }
 }
 
 // The dimension; every room, of its asked size, is left at zero.

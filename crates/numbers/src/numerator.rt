@@ -1,9 +1,8 @@
 // The numerator of a list. The rooms' asked sizes are those of the list as given; after a refusal every cell holds what it held.
-use crate::asked::cells_asked;
-use crate::asked::coefficients_asked;
+use crate::asked::Rooms;
+use crate::asked::checked;
 use crate::coefficients::trimmed_length;
 use crate::engine::add_numerator;
-use crate::leaf::least;
 use crate::leaf::zero;
 use crate::masks::starting_list;
 use crate::rows::put_cells;
@@ -46,33 +45,35 @@ pub fn hilbert_numerator(
     ensures { λ r. do ⌜ now (first .exit) ≡ numeratorFirst (← ⟦MAX_WIDTH⟧ .entry) (← ⟦MAX_COUNT⟧ .entry) n s (now (cells .entry)) (now (room .entry)) (now (first .entry)) (now (second .entry)) ⌝ }
     ensures { λ r. do ⌜ now (second .exit) ≡ numeratorSecond (← ⟦MAX_WIDTH⟧ .entry) (← ⟦MAX_COUNT⟧ .entry) n s (now (cells .entry)) (now (room .entry)) (now (first .entry)) (now (second .entry)) ⌝ }
 {
-    if MAX_WIDTH < n {
-        return refused(Refusal::Width);
-    }
-    if MAX_COUNT < s {
-        return refused(Refusal::Count);
-    }
-    if cells.len() != s * n {
-        return refused(Refusal::Cells);
-    }
-    let c = cells_asked(n, s, cells, 0, cells);
-    if room.len() < c {
-        return refused(Refusal::CellRoom);
-    }
-    let k = coefficients_asked(n, s, cells, 0, cells);
-    if least(first.len(), second.len()) < k {
-        return refused(Refusal::CoefficientRoom);
-    }
-    let r = numerator_in(
+    let rooms = checked(
         n,
         s,
         cells,
-        &mut room[..c],
-        &mut first[..k],
-        &mut second[..k],
+        0,
+        &cells[0..0],
+        false,
+        0,
+        room.len(),
+        first.len(),
+        second.len(),
     );
-    LengthAnswer {
-        outcome: LengthOutcome::Value(r),
+    match rooms {
+        Rooms::Asked(a) => {
+            let c = a.cells;
+            let k = a.coefficients;
+            let r = numerator_in(
+                n,
+                s,
+                cells,
+                &mut room[..c],
+                &mut first[..k],
+                &mut second[..k],
+            );
+            LengthAnswer {
+                outcome: LengthOutcome::Value(r),
+            }
+        }
+        Rooms::Refused(r) => refused(r),
     }
 }
 

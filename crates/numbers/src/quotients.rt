@@ -1,48 +1,28 @@
 // The quotients of two lists by a monomial, in the room.
 use crate::minimal::less;
 use crate::minimal::minimalize;
-use crate::rows::put_cells;
 ghost use mathlib.Core.Path.{_≡_};
-ghost use Prim.Native.Nat.{_+_, _-_, _*_, _≤_};
+ghost use Prim.Native.Nat.{_+_, _-_, _*_, _%_, _<_, _≤_};
 ghost use lib.ListN.{length, getD};
 ghost use Rattle.laws.specs.Ideal.{colon};
 ghost use Rattle.laws.proofs.Asked.{both};
 ghost use Rattle.laws.proofs.Rows.{Wrote};
-ghost use Rattle.laws.proofs.Grown.{Carries, DividedBy};
+ghost use Rattle.laws.proofs.Grown.{Carries};
 
-// The s monomials in xs and, behind them, the first t in ys.
-fn put_lists(room: &mut [u16], n: usize, s: usize, xs: &[u16], t: usize, ys: &[u16])
-    requires { ⌜ (length (now xs) ≡ s * n) × (t * n ≤ length (now ys)) × ((s + t) * n ≤ length (now room)) ⌝ }
-    ensures { λ _. ⌜ Carries n (s + t) (both n s (now (xs .entry)) t (now (ys .entry))) (now (room .entry)) (now (room .exit)) ⌝ }
-{
-    put_cells(room, 0, xs);
-    let e = t * n;
-    put_cells(room, xs.len(), &ys[0..e]);
-}
-
-// The monomial from the cell `to` on, divided by g.
-fn divide_row(room: &mut [u16], to: usize, g: &[u16])
-    requires { ⌜ to + length (now g) ≤ length (now room) ⌝ }
-    ensures { λ _. ⌜ Wrote (now (room .entry)) (λ j. getD (now (room .entry)) (to + j) 0 - getD (now (g .entry)) j 0) to (length (now (g .entry))) (now (room .exit)) ⌝ }
+// The monomials in `cells`, each divided by g, from the cell `to` on.
+fn put_quotients(room: &mut [u16], to: usize, cells: &[u16], g: &[u16])
+    requires { ⌜ (to + length (now cells) ≤ length (now room)) × (0 < length (now cells) → 0 < length (now g)) ⌝ }
+    ensures { λ _. ⌜ Wrote (now (room .entry)) (λ j. getD (now (cells .entry)) j 0 - getD (now (g .entry)) (j % length (now (g .entry))) 0) to (length (now (cells .entry))) (now (room .exit)) ⌝ }
 {
     let mut i: usize = 0;
-    while i < g.len() {
-        let at = to + i;
-        let x = room[at];
-        room[at] = less(x, g[i]);
+    let mut v: usize = 0;
+    while i < cells.len() {
+        room[to + i] = less(cells[i], g[v]);
         i += 1;
-    }
-}
-
-// Each of m monomials, divided by g.
-fn divide_rows(room: &mut [u16], n: usize, m: usize, g: &[u16])
-    requires { ⌜ (m * n ≤ length (now room)) × (length (now g) ≡ n) ⌝ }
-    ensures { λ _. ⌜ DividedBy n (now (g .entry)) (now (room .entry)) m (now (room .exit)) ⌝ }
-{
-    let mut i: usize = 0;
-    while i < m {
-        divide_row(room, i * n, g);
-        i += 1;
+        v += 1;
+        if v == g.len() {
+            v = 0;
+        }
     }
 }
 
@@ -59,8 +39,8 @@ pub(crate) fn quotients(
     requires { ⌜ (length (now xs) ≡ s * n) × (t * n ≤ length (now ys)) × ((s + t) * n ≤ length (now room)) × (length (now g) ≡ n) × (s + t ≤ 4096) ⌝ }
     ensures { λ r. ⌜ (r ≤ s + t) × Carries n r (colon (both n s (now (xs .entry)) t (now (ys .entry))) (now (g .entry))) (now (room .entry)) (now (room .exit)) ⌝ }
 {
-    put_lists(room, n, s, xs, t, ys);
-    let m = s + t;
-    divide_rows(room, n, m, g);
-    minimalize(room, n, m, 0xffff_ffff_ffff_ffff)
+    put_quotients(room, 0, xs, g);
+    let e = t * n;
+    put_quotients(room, xs.len(), &ys[0..e], g);
+    minimalize(room, n, s + t, 0xffff_ffff_ffff_ffff)
 }

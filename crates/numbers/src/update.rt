@@ -1,12 +1,11 @@
 // The update of given coefficients by new monomials: G + N(existing and new) - N(existing). The rooms' asked sizes are those of both lists
 // as given, and of G; after a refusal every cell holds what it held.
-use crate::asked::cells_asked;
-use crate::asked::coefficients_asked;
+use crate::asked::Rooms;
+use crate::asked::checked;
 use crate::coefficients::trimmed_length;
 use crate::engine::add_numerator;
 use crate::leaf::add_shifted;
 use crate::leaf::degree;
-use crate::leaf::least;
 use crate::leaf::zero;
 use crate::numerator::LengthAnswer;
 use crate::numerator::LengthOutcome;
@@ -17,7 +16,6 @@ use crate::rows::wipe;
 use crate::signed::magnitude;
 use monomials::refusal::MAX_COUNT;
 use monomials::refusal::MAX_WIDTH;
-use monomials::refusal::Refusal;
 ghost use mathlib.Core.List.{_++_};
 ghost use mathlib.Core.Path.{_≡_};
 ghost use Prim.Native.Nat.{ℕ, _+_, _-_, _*_, _^_, _<_, _≤_};
@@ -28,9 +26,8 @@ ghost use Rattle.laws.specs.Ideal.{listed};
 ghost use Rattle.laws.specs.Numerator.{update};
 ghost use Rattle.laws.specs.Room.{updateAsked};
 ghost use Rattle.laws.proofs.Added.{AddedTo, Zeros};
-ghost use Rattle.laws.proofs.Asked.{Lists, both};
-ghost use Rattle.laws.proofs.Rows.{at};
-ghost use Rattle.laws.proofs.Grown.{grown, taken};
+ghost use Rattle.laws.proofs.Asked.{both};
+ghost use Rattle.laws.proofs.Grown.{grown};
 ghost use Rattle.numbers.specs.Update.{beyond as beyondOf, updateAnswer, updateRoom, updateFirst, updateSecond};
 
 // The greatest magnitude of a given coefficient: 2^61.
@@ -54,45 +51,38 @@ pub fn add_generators(
     ensures { λ r. do ⌜ now (first .exit) ≡ updateFirst (← ⟦MAX_WIDTH⟧ .entry) (← ⟦MAX_COUNT⟧ .entry) (← ⟦MAX_COEFFICIENT⟧ .entry) n (now (given .entry)) s0 (now (existing .entry)) s1 (now (added .entry)) (now (room .entry)) (now (first .entry)) (now (second .entry)) ⌝ }
     ensures { λ r. do ⌜ now (second .exit) ≡ updateSecond (← ⟦MAX_WIDTH⟧ .entry) (← ⟦MAX_COUNT⟧ .entry) (← ⟦MAX_COEFFICIENT⟧ .entry) n (now (given .entry)) s0 (now (existing .entry)) s1 (now (added .entry)) (now (room .entry)) (now (first .entry)) (now (second .entry)) ⌝ }
 {
-    if MAX_WIDTH < n {
-        return refused(Refusal::Width);
-    }
-    if MAX_COUNT < s0 {
-        return refused(Refusal::Count);
-    }
-    if MAX_COUNT - s0 < s1 {
-        return refused(Refusal::Count);
-    }
-    if existing.len() != s0 * n {
-        return refused(Refusal::Cells);
-    }
-    if added.len() != s1 * n {
-        return refused(Refusal::Cells);
-    }
-    if beyond(given) {
-        return refused(Refusal::Coefficient);
-    }
-    let c = cells_asked(n, s0, existing, s1, added);
-    if room.len() < c {
-        return refused(Refusal::CellRoom);
-    }
-    let k = update_asked(n, given, s0, existing, s1, added);
-    if least(first.len(), second.len()) < k {
-        return refused(Refusal::CoefficientRoom);
-    }
-    let r = update_in(
+    let rooms = checked(
         n,
-        given,
         s0,
         existing,
         s1,
         added,
-        &mut room[..c],
-        &mut first[..k],
-        &mut second[..k],
+        beyond(given),
+        given.len(),
+        room.len(),
+        first.len(),
+        second.len(),
     );
-    LengthAnswer {
-        outcome: LengthOutcome::Value(r),
+    match rooms {
+        Rooms::Asked(a) => {
+            let c = a.cells;
+            let k = a.coefficients;
+            let r = update_in(
+                n,
+                given,
+                s0,
+                existing,
+                s1,
+                added,
+                &mut room[..c],
+                &mut first[..k],
+                &mut second[..k],
+            );
+            LengthAnswer {
+                outcome: LengthOutcome::Value(r),
+            }
+        }
+        Rooms::Refused(r) => refused(r),
     }
 }
 
@@ -111,39 +101,7 @@ fn beyond(given: &[i64]) -> bool
     false
 }
 
-// The coefficients asked of either room.
-fn update_asked(n: usize, given: &[i64], s: usize, xs: &[u16], t: usize, ys: &[u16]) -> usize
-    requires { ⌜ Lists n s (now xs) t (now ys) ⌝ }
-    ensures { λ r. ⌜ r ≡ updateAsked (now (given .entry)) (both n s (now (xs .entry)) t (now (ys .entry))) ⌝ }
-{
-    let k = coefficients_asked(n, s, xs, t, ys);
-    if k < given.len() { given.len() } else { k }
-}
-
-// One new monomial, number t in ys: t^deg times the numerator of the earlier ones' quotients by it is taken off.
-fn add_generator(
-    n: usize,
-    s: usize,
-    xs: &[u16],
-    t: usize,
-    ys: &[u16],
-    room: &mut [u16],
-    first: &mut [i64],
-    second: &mut [i64],
-)
-    requires { ⌜ (length (now xs) ≡ s * n) × ((t + 1) * n ≤ length (now ys)) × (n ≤ 65536) × (s + t ≤ 4096) × ((s + t) * (s + t) * n ≤ length (now room)) ⌝ }
-    requires { ⌜ (length (now second) ≡ length (now first)) × Zeros (now second) ⌝ }
-    ensures { λ _. ⌜ AddedTo (taken (both n s (now (xs .entry)) t (now (ys .entry))) (at n t (now (ys .entry)))) (now (first .entry)) (now (first .exit)) ⌝ }
-    ensures { λ _. ⌜ (length (now (second .exit)) ≡ length (now (second .entry))) × Zeros (now (second .exit)) ⌝ }
-{
-    let g = row(ys, n, t);
-    let m = quotients(room, n, s, xs, t, ys, g);
-    let d = degree(g);
-    let minus = [-1i64; 1];
-    add_numerator(room, n, m, d, &minus, 0, first, second);
-}
-
-// All t new monomials in ys, one after another.
+// The new monomials in ys, one after another: for each, t^deg times the numerator of the earlier ones' quotients by it is taken off.
 fn add_each(
     n: usize,
     s: usize,
@@ -159,9 +117,12 @@ fn add_each(
     ensures { λ _. ⌜ AddedTo (grown (listed n s (now (xs .entry))) (listed n t (now (ys .entry)))) (now (first .entry)) (now (first .exit)) ⌝ }
     ensures { λ _. ⌜ (length (now (second .exit)) ≡ length (now (second .entry))) × Zeros (now (second .exit)) ⌝ }
 {
+    let minus = [-1i64; 1];
     let mut i: usize = 0;
     while i < t {
-        add_generator(n, s, xs, i, ys, room, first, second);
+        let g = row(ys, n, i);
+        let m = quotients(room, n, s, xs, i, ys, g);
+        add_numerator(room, n, m, degree(g), &minus, 0, first, second);
         i += 1;
     }
 }

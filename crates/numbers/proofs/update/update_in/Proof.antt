@@ -2,7 +2,7 @@ use Prim.Native.Nat.{_+_, ℕ}
 use lib.IntN.{pos}
 use lib.ListN.{length, replicate}
 use mathlib.Core.Path.{_∙_, ap, sym}
-use native.Mathlib.Nat.{le-of-eq, le-refl, le-trans}
+use native.Mathlib.Nat.{le-of-eq}
 use Rattle.laws.proofs.Grown.{updated, updated-length, updated-padded}
 use Rattle.laws.proofs.Trim.{zeros-all}
 use Rattle.laws.specs.Ideal.{listed}
