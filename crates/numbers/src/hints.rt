@@ -43,27 +43,33 @@ fn marks(s: &mut [u64], room: &[u16], n: usize, m: usize) -> u64
     std::num::wrapping_sub_u64(bit, 1)
 }
 
-// The most frequent variable.
-fn most(s: &[u64]) -> Hint {
-    let mut best: usize = 0;
-    let mut having: u64 = 0;
-    let mut count: u32 = 0;
+// The most frequent variable of those in two monomials or more; few where none is in three, and at least 2m are in two.
+fn most(s: &[u64], m: usize) -> Hint {
+    let mut h = Hint {
+        few: false,
+        part: 0,
+        v: 0,
+        having: 0,
+    };
+    let mut count: u32 = 1;
+    let mut pairs: usize = 0;
     let mut v: usize = 0;
     while v < s.len() {
         let c = u64::count_ones(s[v]);
+        if c == 2 {
+            pairs += 1;
+        }
         if c > count {
             count = c;
-            having = s[v];
-            best = v;
+            h.v = v;
+            h.having = s[v];
         }
         v += 1;
     }
-    Hint {
-        few: false,
-        part: 0,
-        v: best,
-        having,
+    if count == 2 {
+        h.few = pairs / 2 >= m;
     }
+    h
 }
 
 // a and the monomials that share a variable with one of it, in one pass.
@@ -102,20 +108,17 @@ fn suggested(s: &mut [u64], room: &[u16], n: usize, m: usize, len: usize) -> Hin
     requires { ⌜ (m * n ≤ length (now room)) × (length (now s) ≤ n) ⌝ }
 {
     let all = marks(s, room, n, m);
-    let mut h = most(s);
-    let c = u64::count_ones(h.having);
-    if c < 2 {
-        return h;
-    }
-    if c == 2 {
-        if len <= 4 {
-            if m <= 14 {
-                h.few = true;
-                return h;
-            }
-        }
-    }
+    let mut h = most(s, m);
     h.part = part(s, h.having, all);
+    if h.part != 0 {
+        h.few = false;
+    }
+    if len > 4 {
+        h.few = false;
+    }
+    if m > 14 {
+        h.few = false;
+    }
     h
 }
 
