@@ -121,27 +121,6 @@ pub(crate) fn zero(s: &mut [i64])
     }
 }
 
-// The leaf, by way of a scratch that holds the whole product.
-fn leaf_in(
-    room: &[u16],
-    n: usize,
-    m: usize,
-    shift: usize,
-    seed: &[i64],
-    out: &mut [i64],
-    scratch: &mut [i64],
-)
-    requires { ⌜ (m * n ≤ length (now room)) × (n ≤ 65536) ⌝ }
-    requires { ⌜ PairwiseCoprime (rows n m (now room)) ⌝ }
-    requires { ⌜ Zeros (now scratch) × Past (now seed) n m (now room) (length (now scratch)) (length (now out)) ⌝ }
-    ensures { λ _. ⌜ AddedTo (shifted shift (seeded (coefficient (now (seed .entry))) [] (rows n m (now (room .entry))))) (now (out .entry)) (now (out .exit)) ⌝ }
-    ensures { λ _. ⌜ (length (now (scratch .exit)) ≡ length (now (scratch .entry))) × Zeros (now (scratch .exit)) ⌝ }
-{
-    product(room, n, m, seed, scratch);
-    add_shifted(out, shift, scratch, false);
-    zero(scratch);
-}
-
 // t^shift times the seed times the numerator of a pairwise coprime list, added to out; scratch is left at zero.
 pub(crate) fn leaf(
     room: &[u16],
@@ -159,5 +138,7 @@ pub(crate) fn leaf(
     ensures { λ _. ⌜ (length (now (scratch .exit)) ≡ length (now (scratch .entry))) × Zeros (now (scratch .exit)) ⌝ }
 {
     let w = span(room, n, m, seed, scratch.len());
-    leaf_in(room, n, m, shift, seed, out, &mut scratch[..w]);
+    product(room, n, m, seed, &mut scratch[..w]);
+    add_shifted(out, shift, &scratch[..w], false);
+    zero(&mut scratch[..w]);
 }
