@@ -18,13 +18,6 @@ ghost use Rattle.laws.proofs.Leaf.{by};
 ghost use Rattle.laws.proofs.Rows.{Wrote, rows};
 ghost use Rattle.laws.proofs.Seed.{seeded};
 
-// Whether every exponent up to z, as well as those before it, is 0.
-fn still(unit: bool, z: u16) -> bool
-    ensures { λ r. ⌜ (r ≡ true → (unit ≡ true) × (z ≡ 0)) ⌝ }
-{
-    if z == 0 { unit } else { false }
-}
-
 // The quotient of the n cells from `from` by those from `by`, in n cells from `to`; whether it is the unit.
 fn divide(room: &mut [u16], from: usize, by: usize, to: usize, n: usize) -> bool
     requires { ⌜ (from + n ≤ to) × (by + n ≤ to) × (to + n ≤ length (now room)) ⌝ }
@@ -38,7 +31,9 @@ fn divide(room: &mut [u16], from: usize, by: usize, to: usize, n: usize) -> bool
         let y = room[by + i];
         let z = less(x, y);
         room[to + i] = z;
-        unit = still(unit, z);
+        if z > 0 {
+            unit = false;
+        }
         i += 1;
     }
     unit
