@@ -45,17 +45,6 @@ fn times(c: &mut [i64], a: usize)
     }
 }
 
-// x + y, or x - y.
-fn plus(x: i64, y: i64, neg: bool) -> i64
-    ensures { λ r. ⌜ r ≡ wrap (2 ^ 64) (x +ℤ by neg y) ⌝ }
-{
-    if neg {
-        signed::wrapping_sub(x, y)
-    } else {
-        signed::wrapping_add(x, y)
-    }
-}
-
 // t^shift times the seed, added to out or taken off it, cut at its length.
 pub(crate) fn add_shifted(out: &mut [i64], shift: usize, seed: &[i64], neg: bool)
     ensures { λ _. ⌜ AddedTo (shifted shift (λ k. by neg (coefficient (now (seed .entry)) k))) (now (out .entry)) (now (out .exit)) ⌝ }
@@ -68,7 +57,11 @@ pub(crate) fn add_shifted(out: &mut [i64], shift: usize, seed: &[i64], neg: bool
         }
         let x = out[k];
         let y = seed[j];
-        out[k] = plus(x, y, neg);
+        let mut z = signed::wrapping_add(x, y);
+        if neg {
+            z = signed::wrapping_sub(x, y);
+        }
+        out[k] = z;
         k += 1;
     }
 }
