@@ -43,7 +43,7 @@ fn marks(s: &mut [u64], room: &[u16], n: usize, m: usize) -> u64
     std::num::wrapping_sub_u64(bit, 1)
 }
 
-// The most frequent variable of those in two monomials or more; few where none is in three, and at least 2m are in two.
+// The most frequent variable of those in two monomials or more; few where none is in three, and 2m - 8 are in two.
 fn most(s: &[u64], m: usize) -> Hint {
     let mut h = Hint {
         few: false,
@@ -67,7 +67,7 @@ fn most(s: &[u64], m: usize) -> Hint {
         v += 1;
     }
     if count == 2 {
-        h.few = pairs / 2 >= m;
+        h.few = pairs / 2 + 4 >= m;
     }
     h
 }

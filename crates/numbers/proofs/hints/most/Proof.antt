@@ -29,4 +29,5 @@ most-spec =
     -- loop-again
     (λ c. ⊎-elim (λ w. (omega arith, omega (arith, w .1))) (λ w. (omega arith, omega (arith, w .1))) (c .before .if1 .came))
     (λ c. search needs)
+    (λ c. search needs)
     (λ c. search needs))
