@@ -1,16 +1,13 @@
 // A leaf: the numerator of a pairwise coprime list, as a product, added to the output at its shift. Sums are modulo 2^64.
 use crate::rows::row;
 use crate::signed;
-ghost use mathlib.Core.Bool.{Bool};
 ghost use mathlib.Core.List.{[]};
 ghost use mathlib.Core.Logic.{_⊎_};
 ghost use mathlib.Core.Path.{_≡_};
-ghost use Prim.Native.Nat.{_*_, _<_, _≤_, _^_};
-ghost use lib.IntN.{_+ℤ_};
+ghost use Prim.Native.Nat.{_*_, _<_, _≤_};
 ghost use lib.ListN.{length};
 ghost use Rattle.laws.specs.Coefficients.{coefficient, shift as shifted};
 ghost use Rattle.laws.specs.Monomial.{degree as degreeOf};
-ghost use Rattle.laws.specs.Word.{wrap};
 ghost use Rattle.laws.proofs.Added.{AddedTo, Timed, Zeros};
 ghost use Rattle.laws.proofs.Leaf.{by, Past, Product};
 ghost use Rattle.laws.proofs.Numerator.{PairwiseCoprime};

@@ -14,7 +14,7 @@ use lib.ListN.{length}
 use mathlib.Core.Bool.{Bool, not}
 use mathlib.Core.List.{List, []}
 use mathlib.Core.Logic.{⊎-elim}
-use mathlib.Core.Path.{_∙_, _≡_, ap, ap₂, subst, sym}
+use mathlib.Core.Path.{_∙_, _≡_, ap, ap₂, subst}
 use native.Mathlib.Omega.{arith}
 use Rattle.numbers.proofs.few.at_most_two.Statement.{statement}
 use Rattle.numbers.proofs.few.at_most_two.Tie as tie
