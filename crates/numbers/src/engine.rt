@@ -6,7 +6,6 @@ use crate::coefficients::trimmed_length;
 use crate::few::few;
 use crate::hints::look;
 use crate::leaf::leaf;
-use crate::leaf::zero;
 use crate::minimal::colon;
 use crate::parts::regroup;
 use crate::pivot::choose;
@@ -19,43 +18,8 @@ ghost use Rattle.laws.proofs.Added.{AddedTo, Zeros};
 ghost use Rattle.laws.proofs.Rows.{rows};
 ghost use Rattle.laws.proofs.Seed.{seeded, Apart};
 
-// A list of two parts: the seed times the numerator of the last a monomials, in q, is the seed of the first b.
-fn parts_in(
-    room: &mut [u16],
-    n: usize,
-    b: usize,
-    a: usize,
-    shift: usize,
-    seed: &[i64],
-    level: usize,
-    q: &mut [i64],
-    out: &mut [i64],
-    scratch: &mut [i64],
-)
-    requires { ⌜ ((a + b) * (a + b) * n ≤ length (now room)) × (n ≤ 65536) × (0 < b) × (0 < a) × (level ≤ 16) ⌝ }
-    requires { ⌜ (length (now scratch) ≡ length (now out)) × Zeros (now scratch) × (shift ≤ length (now out)) × (length (now q) ≡ length (now out) - shift) ⌝ }
-    requires { ⌜ Apart (rows n b (now room)) (rows n a (drop (b * n) (now room))) ⌝ }
-    ensures { λ _. ⌜ AddedTo (shifted shift (seeded (coefficient (now (seed .entry))) [] (rows n (b + a) (now (room .entry))))) (now (out .entry)) (now (out .exit)) ⌝ }
-    ensures { λ _. ⌜ (length (now (scratch .exit)) ≡ length (now (scratch .entry))) × Zeros (now (scratch .exit)) ⌝ }
-{
-    zero(q);
-    let w = q.len();
-    let base = b * n;
-    add_numerator(
-        &mut room[base..],
-        n,
-        a,
-        0,
-        seed,
-        level,
-        q,
-        &mut scratch[..w],
-    );
-    let r = trimmed_length(q);
-    add_numerator(room, n, b, shift, &q[..r], level, out, scratch);
-}
-
-// The same, the product in an array of its own: a function by itself, so that no other frame holds the array.
+// A list of two parts: the seed times the numerator of the last a monomials is the seed of the first b. A function by itself, so that no
+// other frame holds the array.
 fn parts(
     room: &mut [u16],
     n: usize,
@@ -75,7 +39,19 @@ fn parts(
 {
     let mut q = [0i64; 512];
     let w = out.len() - shift;
-    parts_in(room, n, b, a, shift, seed, level, &mut q[..w], out, scratch);
+    let base = b * n;
+    add_numerator(
+        &mut room[base..],
+        n,
+        a,
+        0,
+        seed,
+        level,
+        &mut q[..w],
+        &mut scratch[..w],
+    );
+    let r = trimmed_length(&q[..w]);
+    add_numerator(room, n, b, shift, &q[..r], level, out, scratch);
 }
 
 // t^shift times the seed times the numerator of m monomials, added to out, cut at its length; scratch is left at zero.
@@ -109,17 +85,14 @@ pub(crate) fn add_numerator(
             return;
         }
         let p = choose(room, n, left, h.v);
-        let count = p.count;
-        let v = p.v;
-        let e = p.e;
-        if count < 2 {
+        if p.count < 2 {
             leaf(room, n, left, at, seed, out, scratch);
             return;
         }
-        let k = sum_branch(room, n, left, v, e);
+        let k = sum_branch(room, n, left, p.v, p.e);
         let base = left * n;
         add_numerator(&mut room[base..], n, k, at, seed, level, out, scratch);
-        left = colon(room, n, left, v, e, h.having);
-        at += e as usize;
+        left = colon(room, n, left, p.v, p.e, h.having);
+        at += p.e as usize;
     }
 }

@@ -18,13 +18,6 @@ ghost use Rattle.laws.proofs.Leaf.{by};
 ghost use Rattle.laws.proofs.Rows.{Wrote, rows};
 ghost use Rattle.laws.proofs.Seed.{seeded};
 
-// Whether every exponent up to z, as well as those before it, is 0.
-fn still(unit: bool, z: u16) -> bool
-    ensures { λ r. ⌜ (r ≡ true → (unit ≡ true) × (z ≡ 0)) ⌝ }
-{
-    if z == 0 { unit } else { false }
-}
-
 // The quotient of the n cells from `from` by those from `by`, in n cells from `to`; whether it is the unit.
 fn divide(room: &mut [u16], from: usize, by: usize, to: usize, n: usize) -> bool
     requires { ⌜ (from + n ≤ to) × (by + n ≤ to) × (to + n ≤ length (now room)) ⌝ }
@@ -38,7 +31,9 @@ fn divide(room: &mut [u16], from: usize, by: usize, to: usize, n: usize) -> bool
         let y = room[by + i];
         let z = less(x, y);
         room[to + i] = z;
-        unit = still(unit, z);
+        if z > 0 {
+            unit = false;
+        }
         i += 1;
     }
     unit
@@ -84,30 +79,7 @@ fn add_factor(out: &mut [i64], shift: usize, d: usize, seed: &[i64], neg: bool)
     add_shifted(out, shift + d, seed, !neg);
 }
 
-// One monomial: 1 - t^deg(a).
-fn single(room: &[u16], n: usize, neg: bool, shift: usize, seed: &[i64], out: &mut [i64])
-    requires { ⌜ (n ≤ length (now room)) × (n ≤ 65536) × (shift < 2305843009213693952) ⌝ }
-    ensures { λ _. ⌜ AddedTo (shifted shift (λ k. by neg (seeded (coefficient (now (seed .entry))) [] (rows n 1 (now (room .entry))) k))) (now (out .entry)) (now (out .exit)) ⌝ }
-{
-    let a = degree(row(room, n, 0));
-    add_factor(out, shift, a, seed, neg);
-}
-
-// Two monomials: 1 - t^deg(a) - t^deg(b) (1 - t^deg(a : b)).
-fn pair(room: &[u16], n: usize, neg: bool, shift: usize, seed: &[i64], out: &mut [i64])
-    requires { ⌜ (n + n ≤ length (now room)) × (n ≤ 65536) × (shift < 2305843009213693952) ⌝ }
-    ensures { λ _. ⌜ AddedTo (shifted shift (λ k. by neg (seeded (coefficient (now (seed .entry))) [] (rows n 2 (now (room .entry))) k))) (now (out .entry)) (now (out .exit)) ⌝ }
-{
-    let p = row(room, n, 0);
-    let q = row(room, n, 1);
-    let b = degree(q);
-    let d = quotient_degree(p, q);
-    add_factor(out, shift + b, d, seed, !neg);
-    let a = degree(p);
-    add_factor(out, shift, a, seed, neg);
-}
-
-// At most two monomials.
+// At most two monomials: 1 - t^deg(a) - t^deg(b) (1 - t^deg(a : b)).
 fn at_most_two(
     room: &[u16],
     n: usize,
@@ -124,11 +96,12 @@ fn at_most_two(
         add_shifted(out, shift, seed, neg);
         return;
     }
-    if m == 1 {
-        single(room, n, neg, shift, seed, out);
-        return;
+    let a = row(room, n, 0);
+    if m == 2 {
+        let b = row(room, n, 1);
+        add_factor(out, shift + degree(b), quotient_degree(a, b), seed, !neg);
     }
-    pair(room, n, neg, shift, seed, out);
+    add_factor(out, shift, degree(a), seed, neg);
 }
 
 // t^shift times the seed times the numerator, added to out or taken off it, cut at its length; nothing where `unit` says that the

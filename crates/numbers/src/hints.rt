@@ -14,25 +14,24 @@ pub(crate) struct Hint {
     pub(crate) having: u64,
 }
 
-// The bit, where x is not 0.
-fn bit_if(x: u16, bit: u64) -> u64 {
-    if x > 0 { bit } else { 0 }
-}
-
 // The bit set for each variable of the row.
-fn mark(s: &mut [u64], row: &[u16], bit: u64) {
-    let w = least(s.len(), row.len());
+fn mark(s: &mut [u64], row: &[u16], bit: u64)
+    requires { ⌜ length (now s) ≤ length (now row) ⌝ }
+{
     let mut v: usize = 0;
-    while v < w {
-        let x = bit_if(row[v], bit);
+    while v < s.len() {
+        let mut x: u64 = 0;
+        if row[v] > 0 {
+            x = bit;
+        }
         s[v] = s[v] | x;
         v += 1;
     }
 }
 
-// The bits of m monomials.
-fn marks(s: &mut [u64], room: &[u16], n: usize, m: usize)
-    requires { ⌜ m * n ≤ length (now room) ⌝ }
+// The bits of m monomials; all those that are set.
+fn marks(s: &mut [u64], room: &[u16], n: usize, m: usize) -> u64
+    requires { ⌜ (m * n ≤ length (now room)) × (length (now s) ≤ n) ⌝ }
 {
     let mut bit: u64 = 1;
     let mut i: usize = 0;
@@ -41,42 +40,36 @@ fn marks(s: &mut [u64], room: &[u16], n: usize, m: usize)
         bit = std::num::wrapping_add_u64(bit, bit);
         i += 1;
     }
+    std::num::wrapping_sub_u64(bit, 1)
 }
 
-// The monomials with a variable.
-fn unite(s: &[u64]) -> u64 {
-    let mut r: u64 = 0;
+// The most frequent variable of those in two monomials or more; few where none is in three, and 2m - 8 are in two.
+fn most(s: &[u64], m: usize) -> Hint {
+    let mut h = Hint {
+        few: false,
+        part: 0,
+        v: 0,
+        having: 0,
+    };
+    let mut count: u32 = 1;
+    let mut pairs: usize = 0;
     let mut v: usize = 0;
     while v < s.len() {
-        r = r | s[v];
+        let c = u64::count_ones(s[v]);
+        if c == 2 {
+            pairs += 1;
+        }
+        if c > count {
+            count = c;
+            h.v = v;
+            h.having = s[v];
+        }
         v += 1;
     }
-    r
-}
-
-// x where two or more bits are set, else 0.
-fn many(x: u64) -> u64 {
-    if x & std::num::wrapping_sub_u64(x, 1) == 0 {
-        0
-    } else {
-        x
+    if count == 2 {
+        h.few = pairs / 2 + 4 >= m;
     }
-}
-
-// The monomials that share a variable with another.
-fn shared(s: &[u64]) -> u64 {
-    let mut r: u64 = 0;
-    let mut v: usize = 0;
-    while v < s.len() {
-        r = r | many(s[v]);
-        v += 1;
-    }
-    r
-}
-
-// x where it has a bit in common with a, else 0.
-fn met(x: u64, a: u64) -> u64 {
-    if x & a == 0 { 0 } else { x }
+    h
 }
 
 // a and the monomials that share a variable with one of it, in one pass.
@@ -84,123 +77,63 @@ fn grown(s: &[u64], a: u64) -> u64 {
     let mut r: u64 = a;
     let mut v: usize = 0;
     while v < s.len() {
-        r = r | met(s[v], r);
+        if s[v] & r != 0 {
+            r = r | s[v];
+        }
         v += 1;
     }
     r
 }
 
-// The most frequent variable.
-fn most(s: &[u64]) -> usize {
-    let mut best: usize = 0;
-    let mut count: u32 = 0;
-    let mut v: usize = 0;
-    while v < s.len() {
-        let c = u64::count_ones(s[v]);
-        if c > count {
-            count = c;
-            best = v;
-        }
-        v += 1;
-    }
-    best
-}
-
-// A set of monomials with no variable in common with the rest, 0 for none: those that share no variable at all, or what is connected to the first.
-fn part(s: &[u64]) -> u64 {
-    let all = unite(s);
-    let sh = shared(s);
-    if sh == 0 {
-        return 0;
-    }
-    if sh != all {
-        return all ^ sh;
-    }
-    let mut a = sh & std::num::wrapping_sub_u64(0, sh);
+// What is connected to a, 0 where that is all.
+fn part(s: &[u64], a: u64, all: u64) -> u64 {
+    let mut r = a;
     let mut i: usize = 0;
     while i < 64 {
-        let b = grown(s, a);
+        let b = grown(s, r);
         if b == all {
             return 0;
         }
-        if b == a {
-            return a;
+        if b == r {
+            return r;
         }
-        a = b;
+        r = b;
         i += 1;
     }
     0
 }
 
-// How many monomials are few, for a seed of so many coefficients.
-fn few_limit(len: usize) -> usize {
-    if len <= 4 {
-        return 6;
-    }
-    if len <= 16 { 5 } else { 4 }
-}
-
-// Whether m monomials are few because no variable is in three of them.
-fn thin(m: usize, len: usize, having: u64) -> bool {
-    if len > 4 {
-        return false;
-    }
-    if m > 14 {
-        return false;
-    }
-    u64::count_ones(having) <= 2
-}
-
 // What the bits of m monomials suggest; the words are 0 before.
 fn suggested(s: &mut [u64], room: &[u16], n: usize, m: usize, len: usize) -> Hint
-    requires { ⌜ m * n ≤ length (now room) ⌝ }
+    requires { ⌜ (m * n ≤ length (now room)) × (length (now s) ≤ n) ⌝ }
 {
-    marks(s, room, n, m);
-    let v = most(s);
-    let mut having: u64 = 0;
-    if v < s.len() {
-        having = s[v];
+    let all = marks(s, room, n, m);
+    let mut h = most(s, m);
+    h.part = part(s, h.having, all);
+    if h.part != 0 {
+        h.few = false;
     }
-    if thin(m, len, having) {
-        return Hint {
-            few: true,
-            part: 0,
-            v,
-            having,
-        };
+    if len > 4 {
+        h.few = false;
     }
-    let p = part(s);
-    Hint {
-        few: false,
-        part: p,
-        v,
-        having,
+    if m > 14 {
+        h.few = false;
     }
+    h
 }
 
-// The same for at most 32 variables, so that fewer words are cleared.
-fn look_narrow(room: &[u16], n: usize, m: usize, len: usize) -> Hint
-    requires { ⌜ m * n ≤ length (now room) ⌝ }
-{
-    let mut s = [0u64; 32];
-    let w = least(n, 32);
-    suggested(&mut s[..w], room, n, m, len)
-}
-
-// The same for more.
-fn look_wide(room: &[u16], n: usize, m: usize, len: usize) -> Hint
-    requires { ⌜ m * n ≤ length (now room) ⌝ }
-{
-    let mut s = [0u64; 256];
-    let w = least(n, 256);
-    suggested(&mut s[..w], room, n, m, len)
-}
-
-// What one pass over m monomials suggests, for a seed of so many coefficients.
+// What one pass over m monomials suggests, for a seed of so many coefficients; for at most 32 variables fewer words are cleared.
 pub(crate) fn look(room: &[u16], n: usize, m: usize, len: usize) -> Hint
     requires { ⌜ m * n ≤ length (now room) ⌝ }
 {
-    if m <= few_limit(len) {
+    let mut few: usize = 4;
+    if len <= 16 {
+        few = 5;
+    }
+    if len <= 4 {
+        few = 6;
+    }
+    if m <= few {
         return Hint {
             few: true,
             part: 0,
@@ -209,7 +142,10 @@ pub(crate) fn look(room: &[u16], n: usize, m: usize, len: usize) -> Hint
         };
     }
     if n <= 32 {
-        return look_narrow(room, n, m, len);
+        let mut s = [0u64; 32];
+        return suggested(&mut s[..n], room, n, m, len);
     }
-    look_wide(room, n, m, len)
+    let mut s = [0u64; 256];
+    let w = least(n, 256);
+    suggested(&mut s[..w], room, n, m, len)
 }

@@ -1,16 +1,13 @@
 // A leaf: the numerator of a pairwise coprime list, as a product, added to the output at its shift. Sums are modulo 2^64.
 use crate::rows::row;
 use crate::signed;
-ghost use mathlib.Core.Bool.{Bool};
 ghost use mathlib.Core.List.{[]};
 ghost use mathlib.Core.Logic.{_⊎_};
 ghost use mathlib.Core.Path.{_≡_};
-ghost use Prim.Native.Nat.{_*_, _<_, _≤_, _^_};
-ghost use lib.IntN.{_+ℤ_};
+ghost use Prim.Native.Nat.{_*_, _<_, _≤_};
 ghost use lib.ListN.{length};
 ghost use Rattle.laws.specs.Coefficients.{coefficient, shift as shifted};
 ghost use Rattle.laws.specs.Monomial.{degree as degreeOf};
-ghost use Rattle.laws.specs.Word.{wrap};
 ghost use Rattle.laws.proofs.Added.{AddedTo, Timed, Zeros};
 ghost use Rattle.laws.proofs.Leaf.{by, Past, Product};
 ghost use Rattle.laws.proofs.Numerator.{PairwiseCoprime};
@@ -45,17 +42,6 @@ fn times(c: &mut [i64], a: usize)
     }
 }
 
-// x + y, or x - y.
-fn plus(x: i64, y: i64, neg: bool) -> i64
-    ensures { λ r. ⌜ r ≡ wrap (2 ^ 64) (x +ℤ by neg y) ⌝ }
-{
-    if neg {
-        signed::wrapping_sub(x, y)
-    } else {
-        signed::wrapping_add(x, y)
-    }
-}
-
 // t^shift times the seed, added to out or taken off it, cut at its length.
 pub(crate) fn add_shifted(out: &mut [i64], shift: usize, seed: &[i64], neg: bool)
     ensures { λ _. ⌜ AddedTo (shifted shift (λ k. by neg (coefficient (now (seed .entry)) k))) (now (out .entry)) (now (out .exit)) ⌝ }
@@ -68,7 +54,11 @@ pub(crate) fn add_shifted(out: &mut [i64], shift: usize, seed: &[i64], neg: bool
         }
         let x = out[k];
         let y = seed[j];
-        out[k] = plus(x, y, neg);
+        let mut z = signed::wrapping_add(x, y);
+        if neg {
+            z = signed::wrapping_sub(x, y);
+        }
+        out[k] = z;
         k += 1;
     }
 }
@@ -121,27 +111,6 @@ pub(crate) fn zero(s: &mut [i64])
     }
 }
 
-// The leaf, by way of a scratch that holds the whole product.
-fn leaf_in(
-    room: &[u16],
-    n: usize,
-    m: usize,
-    shift: usize,
-    seed: &[i64],
-    out: &mut [i64],
-    scratch: &mut [i64],
-)
-    requires { ⌜ (m * n ≤ length (now room)) × (n ≤ 65536) ⌝ }
-    requires { ⌜ PairwiseCoprime (rows n m (now room)) ⌝ }
-    requires { ⌜ Zeros (now scratch) × Past (now seed) n m (now room) (length (now scratch)) (length (now out)) ⌝ }
-    ensures { λ _. ⌜ AddedTo (shifted shift (seeded (coefficient (now (seed .entry))) [] (rows n m (now (room .entry))))) (now (out .entry)) (now (out .exit)) ⌝ }
-    ensures { λ _. ⌜ (length (now (scratch .exit)) ≡ length (now (scratch .entry))) × Zeros (now (scratch .exit)) ⌝ }
-{
-    product(room, n, m, seed, scratch);
-    add_shifted(out, shift, scratch, false);
-    zero(scratch);
-}
-
 // t^shift times the seed times the numerator of a pairwise coprime list, added to out; scratch is left at zero.
 pub(crate) fn leaf(
     room: &[u16],
@@ -159,5 +128,7 @@ pub(crate) fn leaf(
     ensures { λ _. ⌜ (length (now (scratch .exit)) ≡ length (now (scratch .entry))) × Zeros (now (scratch .exit)) ⌝ }
 {
     let w = span(room, n, m, seed, scratch.len());
-    leaf_in(room, n, m, shift, seed, out, &mut scratch[..w]);
+    product(room, n, m, seed, &mut scratch[..w]);
+    add_shifted(out, shift, &scratch[..w], false);
+    zero(&mut scratch[..w]);
 }

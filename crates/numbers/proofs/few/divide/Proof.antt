@@ -1,9 +1,10 @@
 use Prim.Native.Nat.{_+_, _-_, _<_, _≤_, ℕ}
 use lib.ListN.{getD, length}
-use mathlib.Core.Bool.{true}
-use mathlib.Core.Logic.{inr}
+use mathlib.Core.Bool.{false≢true, true}
+use mathlib.Core.Logic.{inr, ⊎-elim}
 use mathlib.Core.Path.{_∙_, _≡_, ap₂, subst, sym}
 use native.Mathlib.Nat.{le-of-eq, lt-of-lt-of-le}
+use native.Mathlib.Omega.{arith}
 use Rattle.laws.proofs.Rows.{Wrote, wrote-more, wrote-none, wrote-read}
 use Rattle.numbers.proofs.FewRows.{zeros-more}
 use Rattle.numbers.proofs.Steps.{before-within, loop-ended, next-fits, next-less, next-within, none-below, offset-bytes, offset-fits, offset-in, offset-now, zero-least}
@@ -43,13 +44,12 @@ divide-spec =
     (λ c. let p3 = c .before .before .before in let p4 = p3 .before in let p6 = p4 .before .before in offset-bytes (p6 .args .to) (p4 .loop .i) (p6 .args .n) (length (p6 .args .room .now)) (p3 .loop-test .taken) (p6 .pre .2) (p6 .good .0 .1))
     -- slice-write-room
     (λ c. let p3 = c .before .before .before in let p4 = p3 .before in let p6 = p4 .before .before in offset-now (p6 .args .to) (p4 .loop .i) (p6 .args .n) (length (p6 .args .room .now)) (length (p4 .loop .room)) (p3 .loop-test .taken) (p6 .pre .2) (p4 .loop .inv .1 .len))
-    (λ c κs. tt)
     -- add-i
     (λ c. let p4 = c .before .before .before .before in let p5 = p4 .before in let p7 = p5 .before .before in next-fits (p5 .loop .i) (p7 .args .n) (p4 .loop-test .taken) (p7 .fits .n))
     -- loop-less
     (λ c. let p4 = c .before .before .before .before in let p5 = p4 .before in let p7 = p5 .before .before in next-less (p5 .loop .i) (p7 .args .n) (p4 .loop-test .taken))
     -- loop-again
-    (λ c. let p1 = c .before in let p4 = p1 .before .before .before in let p5 = p4 .before in let p7 = p5 .before .before in (next-within (p5 .loop .i) (p7 .args .n) (p4 .loop-test .taken), wrote-more (p7 .args .room .now) (λ j. getD (p7 .args .room .now) (p7 .args .from + j) 0 - getD (p7 .args .room .now) (p7 .args .by + j) 0) (p7 .args .to) (p5 .loop .i) (p1 .less .result) (p5 .loop .room) (offset-in (p7 .args .to) (p5 .loop .i) (p7 .args .n) (length (p7 .args .room .now)) (p4 .loop-test .taken) (p7 .pre .2)) (p1 .less .ensures ∙ ap₂ _-_ (wrote-read (p7 .args .room .now) (λ j. getD (p7 .args .room .now) (p7 .args .from + j) 0 - getD (p7 .args .room .now) (p7 .args .by + j) 0) (p7 .args .to) (p5 .loop .i) (p7 .args .from) (p7 .args .n) (p5 .loop .room) (p4 .loop-test .taken) (inr (p7 .pre .0)) (p5 .loop .inv .1)) (wrote-read (p7 .args .room .now) (λ j. getD (p7 .args .room .now) (p7 .args .from + j) 0 - getD (p7 .args .room .now) (p7 .args .by + j) 0) (p7 .args .to) (p5 .loop .i) (p7 .args .by) (p7 .args .n) (p5 .loop .room) (p4 .loop-test .taken) (inr (p7 .pre .1)) (p5 .loop .inv .1))) (p5 .loop .inv .1), λ u. let y = c .still .ensures u in zeros-more (λ j. getD (p7 .args .room .now) (p7 .args .from + j) 0 - getD (p7 .args .room .now) (p7 .args .by + j) 0) (p5 .loop .i) (p5 .loop .inv .2 (y .0)) (sym (p1 .less .ensures ∙ ap₂ _-_ (wrote-read (p7 .args .room .now) (λ j. getD (p7 .args .room .now) (p7 .args .from + j) 0 - getD (p7 .args .room .now) (p7 .args .by + j) 0) (p7 .args .to) (p5 .loop .i) (p7 .args .from) (p7 .args .n) (p5 .loop .room) (p4 .loop-test .taken) (inr (p7 .pre .0)) (p5 .loop .inv .1)) (wrote-read (p7 .args .room .now) (λ j. getD (p7 .args .room .now) (p7 .args .from + j) 0 - getD (p7 .args .room .now) (p7 .args .by + j) 0) (p7 .args .to) (p5 .loop .i) (p7 .args .by) (p7 .args .n) (p5 .loop .room) (p4 .loop-test .taken) (inr (p7 .pre .1)) (p5 .loop .inv .1))) ∙ y .1)))
+    (λ c. let p1 = c .before in let p4 = p1 .before .before .before in let p5 = p4 .before in let p7 = p5 .before .before in (next-within (p5 .loop .i) (p7 .args .n) (p4 .loop-test .taken), wrote-more (p7 .args .room .now) (λ j. getD (p7 .args .room .now) (p7 .args .from + j) 0 - getD (p7 .args .room .now) (p7 .args .by + j) 0) (p7 .args .to) (p5 .loop .i) (p1 .less .result) (p5 .loop .room) (offset-in (p7 .args .to) (p5 .loop .i) (p7 .args .n) (length (p7 .args .room .now)) (p4 .loop-test .taken) (p7 .pre .2)) (p1 .less .ensures ∙ ap₂ _-_ (wrote-read (p7 .args .room .now) (λ j. getD (p7 .args .room .now) (p7 .args .from + j) 0 - getD (p7 .args .room .now) (p7 .args .by + j) 0) (p7 .args .to) (p5 .loop .i) (p7 .args .from) (p7 .args .n) (p5 .loop .room) (p4 .loop-test .taken) (inr (p7 .pre .0)) (p5 .loop .inv .1)) (wrote-read (p7 .args .room .now) (λ j. getD (p7 .args .room .now) (p7 .args .from + j) 0 - getD (p7 .args .room .now) (p7 .args .by + j) 0) (p7 .args .to) (p5 .loop .i) (p7 .args .by) (p7 .args .n) (p5 .loop .room) (p4 .loop-test .taken) (inr (p7 .pre .1)) (p5 .loop .inv .1))) (p5 .loop .inv .1), λ u. ⊎-elim (λ w. absurd (false≢true (sym (w .1) ∙ u))) (λ w. let z : p1 .less .result ≡ 0 = omega (arith, w .0 .left) in zeros-more (λ j. getD (p7 .args .room .now) (p7 .args .from + j) 0 - getD (p7 .args .room .now) (p7 .args .by + j) 0) (p5 .loop .i) (p5 .loop .inv .2 (sym (w .1) ∙ u)) (sym (p1 .less .ensures ∙ ap₂ _-_ (wrote-read (p7 .args .room .now) (λ j. getD (p7 .args .room .now) (p7 .args .from + j) 0 - getD (p7 .args .room .now) (p7 .args .by + j) 0) (p7 .args .to) (p5 .loop .i) (p7 .args .from) (p7 .args .n) (p5 .loop .room) (p4 .loop-test .taken) (inr (p7 .pre .0)) (p5 .loop .inv .1)) (wrote-read (p7 .args .room .now) (λ j. getD (p7 .args .room .now) (p7 .args .from + j) 0 - getD (p7 .args .room .now) (p7 .args .by + j) 0) (p7 .args .to) (p5 .loop .i) (p7 .args .by) (p7 .args .n) (p5 .loop .room) (p4 .loop-test .taken) (inr (p7 .pre .1)) (p5 .loop .inv .1))) ∙ z)) (c .if1 .came)))
     -- same-length
     (λ c. let p1 = c .before in p1 .loop .inv .1 .len)
     -- returns

@@ -4,10 +4,10 @@ use Rattle.numbers.proofs.hints.part.Statement.{statement}
 use Rattle.numbers.proofs.hints.part.Tie as tie
 
 abbrev Inv-loop : tie.InvT-loop
-Inv-loop s all sh a₀ i₀ a i = i ≤ 64
+Inv-loop s a all r₀ i₀ r i = i ≤ 64
 
 abbrev μ-loop : tie.MeasureT-loop
-μ-loop s all sh a₀ i₀ a i = 64 - i
+μ-loop s a all r₀ i₀ r i = 64 - i
 
 pub part-spec : {M : Type 1} → statement M
 part-spec =
@@ -15,11 +15,6 @@ part-spec =
     (tie.spec
     Inv-loop
     μ-loop
-    (λ c κs. search needs)
-    (λ c κs. search needs)
-    (λ c. search needs)
-    (λ c. search needs)
-    (λ c κs. search needs)
     (λ c. search needs)
     (λ c κs. search needs)
     (λ c. search needs)

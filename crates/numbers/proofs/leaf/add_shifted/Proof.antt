@@ -1,13 +1,18 @@
-use Prim.Native.Nat.{_-_, _≤_}
-use borrow.Author.Needs.{needs, sfits-of}
-use lib.ListN.{length}
-use mathlib.Core.Path.{_∙_}
-use mir.Facts.{toZ-ofZ}
-use mir.Syntax.{w64}
-use native.Mathlib.Omega.{arith}
+use Prim.Native.Nat.{_-_, _≤_, _^_}
 use Rattle.laws.proofs.Added.{Adding, adding-end, adding-more, adding-none}
 use Rattle.laws.proofs.Leaf.{adding-short, by}
 use Rattle.laws.specs.Coefficients.{coefficient, shift}
+use Rattle.laws.specs.Word.{wrap}
+use borrow.Author.Needs.{needs, sfits-of}
+use lib.IntN.{_+ℤ_}
+use lib.ListN.{length}
+use mathlib.Core.Bool.{Bool}
+use mathlib.Core.Logic.{⊎-elim}
+use mathlib.Core.Path.{_∙_, ap, sym}
+use mir.Facts.{toZ-ofZ}
+use mir.Syntax.{w64}
+use mir.Val.{toZ}
+use native.Mathlib.Omega.{arith}
 use Rattle.numbers.proofs.leaf.add_shifted.Statement.{statement}
 use Rattle.numbers.proofs.leaf.add_shifted.Tie as tie
 
@@ -34,13 +39,19 @@ add-shifted-spec =
     (λ c. search needs)
     (λ c. search needs)
     (λ c κs. search needs)
+    (λ c κs. search needs)
     (λ c. search needs)
     (λ c. search needs)
     (λ c. search needs)
     (λ c. search needs)
     -- loop-again
-    (λ c. let p1 = c .before in let p2 = p1 .before in let p5 = p2 .before .before .before in let e = rw (toZ-ofZ {w = w64} (sfits-of (p2 .x .given)), toZ-ofZ {w = w64} (sfits-of (p1 .y .given))) at (c .plus .ensures) in
-    (omega arith, adding-more _ _ _ _ _ _ (omega arith) (omega arith) (toZ-ofZ {w = w64} (sfits-of (c .plus .ok)) ∙ e) (p5 .loop .inv .1)))
+    (λ c. let p1 = c .before in let p2 = p1 .before in let p3 = p2 .before in let p6 = p3 .before .before .before in let p7 = p6 .before in let s = p7 .args .shift in let k = p6 .loop .k in
+    let e =
+    ⊎-elim
+    (λ w. ap (toZ w64) (w .2) ∙ toZ-ofZ {w = w64} (sfits-of (w .1 .ok)) ∙ rw (toZ-ofZ {w = w64} (sfits-of (p3 .x .given)), toZ-ofZ {w = w64} (sfits-of (p2 .y .given))) at (w .1 .ensures) ∙ ap (λ (b : Bool). wrap (2 ^ 64) (coefficient (p6 .loop .out) k +ℤ by b (coefficient (p7 .args .seed .now) (k - s)))) (sym (w .0 .taken)))
+    (λ w. ap (toZ w64) (w .1) ∙ toZ-ofZ {w = w64} (sfits-of (p1 .wrapping-add .ok)) ∙ rw (toZ-ofZ {w = w64} (sfits-of (p3 .x .given)), toZ-ofZ {w = w64} (sfits-of (p2 .y .given))) at (p1 .wrapping-add .ensures) ∙ ap (λ (b : Bool). wrap (2 ^ 64) (coefficient (p6 .loop .out) k +ℤ by b (coefficient (p7 .args .seed .now) (k - s)))) (sym (w .0 .left)))
+    (c .if2 .came) in
+    (omega arith, adding-more s (λ j. by (p7 .args .neg) (coefficient (p7 .args .seed .now) j)) (p7 .args .out .now) k (p6 .loop .out) (toZ w64 (c .if2 .z)) (omega arith) (omega arith) e (p6 .loop .inv .1)))
     (λ c. search needs)
     -- returns-2
     (λ c. adding-end _ _ _ _ _ (omega arith) (c .before .loop .inv .1)))
