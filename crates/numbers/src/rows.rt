@@ -4,7 +4,7 @@ ghost use mathlib.Core.Path.{_≡_};
 ghost use Prim.Native.Nat.{_+_, _*_, _<_, _≤_};
 ghost use lib.ListN.{length, getD, replicate};
 ghost use Rattle.laws.proofs.Rows.{Wrote, at, axis};
-ghost use Rattle.laws.proofs.Pass.{Swapped, Thinned};
+ghost use Rattle.laws.proofs.Pass.{Swapped};
 
 // Monomial i, as a part of the room.
 pub(crate) fn row(room: &[u16], n: usize, i: usize) -> &[u16]
@@ -81,7 +81,7 @@ pub(crate) fn put_power(room: &mut [u16], to: usize, n: usize, v: usize, e: u16)
 }
 
 // Monomials i and j, exchanged.
-fn swap(room: &mut [u16], n: usize, i: usize, j: usize)
+pub(crate) fn swap(room: &mut [u16], n: usize, i: usize, j: usize)
     requires { ⌜ (i < j) × ((j + 1) * n ≤ length (now room)) ⌝ }
     ensures { λ _. ⌜ Swapped (i * n) (j * n) (now (room .entry)) n (now (room .exit)) ⌝ }
 {
@@ -97,15 +97,4 @@ fn swap(room: &mut [u16], n: usize, i: usize, j: usize)
         room[q] = x;
         t += 1;
     }
-}
-
-// The same m monomials, number j exchanged with number i before it.
-pub(crate) fn exchange(room: &mut [u16], n: usize, m: usize, i: usize, j: usize)
-    requires { ⌜ (m * n ≤ length (now room)) × (j < m) ⌝ }
-    ensures { λ _. ⌜ Thinned n m (now (room .entry)) m (now (room .exit)) ⌝ }
-{
-    if i >= j {
-        return;
-    }
-    swap(room, n, i, j);
 }
