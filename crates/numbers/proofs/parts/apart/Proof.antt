@@ -1,11 +1,11 @@
-use Prim.Native.Nat.{_-_, _≤_}
-use borrow.Author.Needs.{needs}
+use Prim.Native.Nat.{_-_, _≤_, ℕ}
 use mathlib.Core.Bool.{false≢true}
 use mathlib.Core.Logic.{inl, inr, ⊎-elim}
-use mathlib.Core.Path.{_≡_}
-use native.Mathlib.Nat.{mul-le-mul-right}
+use mathlib.Core.Path.{_∙_, _≡_, subst, sym}
+use native.Mathlib.Nat.{le-trans, mul-le-mul-right}
 use native.Mathlib.Omega.{arith}
 use Rattle.laws.proofs.Parts.{Sided, sided-end, sided-more, sided-none}
+use Rattle.numbers.proofs.Steps.{loop-ended, next-fits, next-less, next-within, none-left, zero-least}
 use Rattle.numbers.proofs.parts.apart.Statement.{statement}
 use Rattle.numbers.proofs.parts.apart.Tie as tie
 
@@ -15,6 +15,9 @@ Inv-loop room n b m v₀ v = (v ≤ n) × Sided n b m room v
 abbrev μ-loop : tie.MeasureT-loop
 μ-loop room n b m v₀ v = n - v
 
+no-more : (f g a b : ℕ) → f ≡ a → g ≡ b → g ≤ f → b ≤ a
+no-more f g a b p q h = omega arith
+
 pub apart-spec : {M : Type 1} → statement M
 apart-spec =
     tie.close
@@ -22,15 +25,18 @@ apart-spec =
     Inv-loop
     μ-loop
     -- loop-holds
-    (λ c. (omega arith, sided-none _ _ _ _))
+    (λ c. let p1 = c .before in (zero-least (p1 .args .n), sided-none (p1 .args .n) (p1 .args .b) (p1 .args .m) (p1 .args .room .now)))
     -- count-above-requires
-    (λ c κs. let p3 = c .before .before .before in (omega (arith, mul-le-mul-right (p3 .args .n) (p3 .pre .1), p3 .pre .0), c .loop-test .taken))
-    (λ c κs. search needs)
+    (λ c κs. let p3 = c .before .before .before in (le-trans (mul-le-mul-right (p3 .args .n) (p3 .pre .1)) (p3 .pre .0), c .loop-test .taken))
+    -- count-above-requires-2
+    (λ c κs. let p2 = c .before .before in let p5 = p2 .before .before .before in (p5 .pre .0, p2 .loop-test .taken))
     -- returns
     (λ c. λ h. absurd (false≢true h))
-    (λ c. search needs)
-    (λ c. search needs)
+    -- add-v
+    (λ c. let p2 = c .before .before in let p3 = p2 .before in let p5 = p3 .before .before in next-fits (p3 .loop .v) (p5 .args .n) (p2 .loop-test .taken) (p5 .fits .n))
+    -- loop-less
+    (λ c. let p2 = c .before .before in let p3 = p2 .before in let p5 = p3 .before .before in next-less (p3 .loop .v) (p5 .args .n) (p2 .loop-test .taken))
     -- loop-again
-    (λ c. let p1 = c .before in let p3 = p1 .before .before in (omega arith, sided-more _ _ _ _ _ (⊎-elim (λ w. inr (omega (arith, p1 .count-above .ensures, w .1 .ensures, w .2 .left))) (λ w. inl (omega (arith, p1 .count-above .ensures, w .left))) (c .if1 .came)) (p3 .loop .inv .1)))
+    (λ c. let p1 = c .before in let p2 = p1 .before in let p3 = p2 .before in let p5 = p3 .before .before in (next-within (p3 .loop .v) (p5 .args .n) (p2 .loop-test .taken), sided-more _ _ _ _ _ (⊎-elim (λ w. inr (no-more _ _ _ _ (p1 .count-above .ensures) (w .1 .ensures) (w .2 .left))) (λ w. inl (sym (p1 .count-above .ensures) ∙ none-left _ (w .left))) (c .if1 .came)) (p3 .loop .inv .1)))
     -- returns-2
-    (λ c. let p1 = c .before in let p3 = p1 .before .before in let e : p1 .loop .v ≡ p3 .args .n = omega arith in λ h. sided-end (p3 .args .n) (p3 .args .b) (p3 .args .m) (p3 .args .room .now) (p3 .pre .0) (p3 .pre .1) (rw e at (p1 .loop .inv .1))))
+    (λ c. let p1 = c .before in let p3 = p1 .before .before in λ h. sided-end (p3 .args .n) (p3 .args .b) (p3 .args .m) (p3 .args .room .now) (p3 .pre .0) (p3 .pre .1) (subst (λ (v : ℕ). Sided (p3 .args .n) (p3 .args .b) (p3 .args .m) (p3 .args .room .now) v) (loop-ended (p1 .loop .v) (p3 .args .n) (p1 .loop .inv .0) (c .loop-test .left)) (p1 .loop .inv .1))))

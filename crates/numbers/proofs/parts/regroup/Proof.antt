@@ -1,7 +1,7 @@
-use mathlib.Core.Path.{_≡_}
-use native.Mathlib.Omega.{arith}
 use Prim.Native.Nat.{_*_, _≤_, ℕ}
 use lib.ListN.{length}
+use mathlib.Core.Path.{_≡_}
+use native.Mathlib.Omega.{arith}
 use Rattle.laws.proofs.Parts.{regrouped-found, regrouped-same}
 use Rattle.laws.proofs.Pass.{thinned-none}
 use Rattle.numbers.proofs.parts.regroup.Statement.{statement}
