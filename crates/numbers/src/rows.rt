@@ -32,8 +32,7 @@ pub(crate) fn copy_cells(room: &mut [u16], from: usize, to: usize, n: usize)
 {
     let mut i: usize = 0;
     while i < n {
-        let x = room[from + i];
-        room[to + i] = x;
+        room[to + i] = room[from + i];
         i += 1;
     }
 }
@@ -61,23 +60,17 @@ pub(crate) fn wipe(room: &mut [u16])
     }
 }
 
-// The exponent of variable j in variable v to the e.
-fn cell(j: usize, v: usize, e: u16) -> u16
-    ensures { λ r. ⌜ r ≡ getD (axis v e) j 0 ⌝ }
-{
-    if j == v { e } else { 0 }
-}
-
 // Variable v to the e, in n cells from `to`.
 pub(crate) fn put_power(room: &mut [u16], to: usize, n: usize, v: usize, e: u16)
-    requires { ⌜ to + n ≤ length (now room) ⌝ }
+    requires { ⌜ (to + n ≤ length (now room)) × (v < n) ⌝ }
     ensures { λ _. ⌜ Wrote (now (room .entry)) (λ j. getD (axis v e) j 0) to n (now (room .exit)) ⌝ }
 {
     let mut i: usize = 0;
     while i < n {
-        room[to + i] = cell(i, v, e);
+        room[to + i] = 0;
         i += 1;
     }
+    room[to + v] = e;
 }
 
 // Monomials i and j, exchanged.
