@@ -20,8 +20,7 @@ fn greatest_of(cells: &[u16]) -> u16
     let mut best: u16 = 0;
     let mut i: usize = 0;
     while i < cells.len() {
-        let x = cells[i];
-        best = greater(best, x);
+        best = greater(best, cells[i]);
         i += 1;
     }
     best

@@ -30,9 +30,9 @@ greatest-of-spec =
     μ-loop
     -- loop-holds
     (λ c. let p1 = c .before in (zero-least (length (p1 .args .cells .now)), none-yet (greatest (p1 .args .cells .now))))
-    -- mul-x
+    -- mul-greater
     (λ c. let p1 = c .before in let p3 = p1 .before .before in place-bytes (p1 .loop .i) (length (p3 .args .cells .now)) (c .loop-test .taken) (p3 .good .0 .1))
-    -- shared-slice-read-x
+    -- shared-slice-read-greater
     (λ c. let p1 = c .before in p1 .loop-test .taken)
     (λ c κs. tt)
     -- add-i

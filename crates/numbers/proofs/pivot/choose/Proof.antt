@@ -3,7 +3,7 @@ use lib.ListN.{length}
 use mathlib.Core.Logic.{⊎-elim}
 use mathlib.Core.Path.{_≡_}
 use native.Mathlib.Omega.{arith}
-use Rattle.laws.proofs.Column.{Choosing, above}
+use Rattle.laws.proofs.Column.{above}
 use Rattle.numbers.proofs.Steps.{cell-in, next-fits, next-less}
 use Rattle.numbers.proofs.pivot.choose.Statement.{statement}
 use Rattle.numbers.proofs.pivot.choose.Tie as tie
