@@ -59,14 +59,15 @@ pub(crate) fn minimalize(room: &mut [u16], n: usize, m: usize, having: u64) -> u
     ensures { λ r. ⌜ Thinned n m (now (room .entry)) r (now (room .exit)) ⌝ }
 {
     let mut left = m;
-    let mut i = m;
+    let mut i: usize = 0;
     let mut bits = having;
-    while i > 0 {
-        i -= 1;
+    while i < left {
         if divisor(room, n, left, i, bits) < left {
             left -= 1;
             copy_cells(room, left * n, i * n, n);
             bits = moved(bits, left, i);
+        } else {
+            i += 1;
         }
     }
     left

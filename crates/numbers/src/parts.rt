@@ -38,9 +38,8 @@ fn apart(room: &[u16], n: usize, b: usize, m: usize) -> bool
 {
     let mut v: usize = 0;
     while v < n {
-        let first = count_above(room, n, b, v, 1);
-        if first > 0 {
-            if count_above(room, n, m, v, 1) > first {
+        if count_above(room, n, b, m, v, 1) > 0 {
+            if count_above(room, n, 0, b, v, 1) > 0 {
                 return false;
             }
         }

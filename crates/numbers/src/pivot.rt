@@ -2,7 +2,7 @@
 // with no such variable the list is pairwise coprime.
 use crate::rows::exponent;
 ghost use mathlib.Core.Path.{_≡_};
-ghost use Prim.Native.Nat.{_*_, _<_, _≤_};
+ghost use Prim.Native.Nat.{_+_, _*_, _<_, _≤_};
 ghost use lib.ListN.{length};
 ghost use Rattle.laws.proofs.Column.{above, Choosing};
 
@@ -13,18 +13,18 @@ pub(crate) struct Choice {
     pub(crate) e: u16,
 }
 
-// How many monomials have the variable v at least e times.
-pub(crate) fn count_above(room: &[u16], n: usize, m: usize, v: usize, e: u16) -> usize
-    requires { ⌜ (m * n ≤ length (now room)) × (v < n) ⌝ }
-    ensures { λ r. ⌜ r ≡ above n v e (now (room .entry)) m ⌝ }
+// How many of the monomials from number i up to m have the variable v at least e times.
+pub(crate) fn count_above(room: &[u16], n: usize, i: usize, m: usize, v: usize, e: u16) -> usize
+    requires { ⌜ (m * n ≤ length (now room)) × (v < n) × (i ≤ m) ⌝ }
+    ensures { λ r. ⌜ above n v e (now (room .entry)) i + r ≡ above n v e (now (room .entry)) m ⌝ }
 {
     let mut count: usize = 0;
-    let mut i: usize = 0;
-    while i < m {
-        if exponent(room, n, i, v) >= e {
+    let mut j = i;
+    while j < m {
+        if exponent(room, n, j, v) >= e {
             count += 1;
         }
-        i += 1;
+        j += 1;
     }
     count
 }
@@ -35,7 +35,7 @@ fn shared(room: &[u16], n: usize, m: usize, hint: usize) -> Choice
     ensures { λ r. ⌜ Choosing n m (now (room .entry)) (r .count) (r .v) (r .e) ⌝ }
 {
     if hint < n {
-        let count = count_above(room, n, m, hint, 1);
+        let count = count_above(room, n, 0, m, hint, 1);
         if count >= 2 {
             return Choice {
                 count,
@@ -46,7 +46,7 @@ fn shared(room: &[u16], n: usize, m: usize, hint: usize) -> Choice
     }
     let mut v: usize = 0;
     while v < n {
-        let count = count_above(room, n, m, v, 1);
+        let count = count_above(room, n, 0, m, v, 1);
         if count >= 2 {
             return Choice { count, v, e: 1 };
         }
@@ -69,7 +69,7 @@ pub(crate) fn choose(room: &[u16], n: usize, m: usize, hint: usize) -> Choice
     while i < m {
         let x = exponent(room, n, i, p.v);
         if x > p.e {
-            if count_above(room, n, m, p.v, x) >= enough {
+            if count_above(room, n, 0, m, p.v, x) >= enough {
                 p.e = x;
             }
         }

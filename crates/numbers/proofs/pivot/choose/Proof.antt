@@ -1,10 +1,10 @@
-use Prim.Native.Nat.{_-_, _/_, _<_, _≤_, ℕ}
+use Prim.Native.Nat.{_+_, _-_, _/_, _<_, _≤_, ℕ}
 use lib.ListN.{length}
 use mathlib.Core.Logic.{⊎-elim}
 use mathlib.Core.Path.{_≡_}
 use native.Mathlib.Omega.{arith}
 use Rattle.laws.proofs.Column.{above}
-use Rattle.numbers.proofs.Steps.{cell-in, next-fits, next-less}
+use Rattle.numbers.proofs.Steps.{cell-in, next-fits, next-less, zero-least}
 use Rattle.numbers.proofs.pivot.choose.Statement.{statement}
 use Rattle.numbers.proofs.pivot.choose.Tie as tie
 
@@ -23,7 +23,7 @@ two-thirds a h = omega arith
 some-more : (a b : ℕ) → a < b → 0 < b
 some-more a b h = omega arith
 
-two-reach : (a b r : ℕ) → 2 ≤ a → a ≤ b → b ≡ r → 2 ≤ r
+two-reach : (a b r : ℕ) → 2 ≤ a → a ≤ b → 0 + b ≡ r → 2 ≤ r
 two-reach a b r h g e = omega arith
 
 two-not-few : (a : ℕ) → 2 ≤ a → a < 2 → ⊥
@@ -45,7 +45,7 @@ choose-spec =
     -- exponent-requires
     (λ c κs. let p1 = c .before in let p8 = p1 .before .before .before .before .before .before .before in cell-in (p8 .args .n) (p8 .args .m) (p1 .loop .i) (p1 .loop .p .v) (length (p8 .args .room .now)) (c .loop-test .taken) (p1 .loop .inv .2) (p8 .pre))
     -- count-above-requires
-    (λ c κs. let p4 = c .before .before .before .before in let p11 = p4 .before .before .before .before .before .before .before in (p11 .pre, p4 .loop .inv .2))
+    (λ c κs. let p4 = c .before .before .before .before in let p11 = p4 .before .before .before .before .before .before .before in (p11 .pre, p4 .loop .inv .2, zero-least (p11 .args .m)))
     -- add-i
     (λ c. let p3 = c .before .before .before in let p4 = p3 .before in let p11 = p4 .before .before .before .before .before .before .before in next-fits (p4 .loop .i) (p11 .args .m) (p3 .loop-test .taken) (p11 .fits .m))
     -- loop-less
