@@ -1,9 +1,7 @@
-use Prim.Native.Nat.{_*_, _-_, _<_, _≤_, ℕ}
+use Prim.Native.Nat.{_-_}
 use borrow.Author.Needs.{needs}
-use mir.Syntax.{w64}
-use mir.Val.{Fits}
 use native.Mathlib.Nat.{lt-of-lt-of-le}
-use native.Mathlib.Omega.{arith}
+use Rattle.numbers.proofs.MaskArray.{mask-fits}
 use Rattle.numbers.proofs.Steps.{next-fits, next-less}
 use Rattle.numbers.proofs.masks.may_divide.Statement.{statement}
 use Rattle.numbers.proofs.masks.may_divide.Tie as tie
@@ -14,9 +12,6 @@ Inv-loop masks s k a i₀ i = Unit {0}
 abbrev μ-loop : tie.MeasureT-loop
 μ-loop masks s k a i₀ i = s - i
 
-fits-sixteen : (i s : ℕ) → i < s → s ≤ 60 → Fits w64 (i * 16)
-fits-sixteen i s h g = omega arith
-
 pub may-divide-spec : {M : Type 1} → statement M
 may-divide-spec =
     tie.close
@@ -24,12 +19,12 @@ may-divide-spec =
     Inv-loop
     μ-loop
     -- mul-a
-    (λ c. fits-sixteen (c .args .k) (c .args .s) (c .pre .1) (c .pre .0))
+    (λ c. mask-fits (c .args .k) (c .args .s) (c .pre .1) (c .pre .0))
     -- element-copy-out-a
     (λ c. lt-of-lt-of-le (c .pre .1) (c .pre .0))
     (λ c. tt)
     -- mul-b
-    (λ c. let p1 = c .before in let p2 = p1 .before in let p4 = p2 .before .before in fits-sixteen (p2 .loop .i) (p4 .args .s) (p1 .loop-test .taken) (p4 .pre .0))
+    (λ c. let p1 = c .before in let p2 = p1 .before in let p4 = p2 .before .before in mask-fits (p2 .loop .i) (p4 .args .s) (p1 .loop-test .taken) (p4 .pre .0))
     -- element-copy-out-b
     (λ c. let p1 = c .before in let p4 = p1 .before .before .before in lt-of-lt-of-le (p1 .loop-test .taken) (p4 .pre .0))
     (λ c. search needs)

@@ -1,8 +1,9 @@
 use Prim.Native.Nat.{_*_, _+_, _-_, _^_, _<_, _≤_, ℕ}
 use lib.ListN.{length}
-use mathlib.Core.Path.{_∙_, _≡_, subst}
+use mathlib.Core.Path.{_∙_, _≡_, subst, sym}
 use mir.Syntax.{w64}
 use mir.Val.{Fits}
+use native.Mathlib.Nat.{le-of-eq, le-trans}
 use native.Mathlib.Omega.{arith}
 use Rattle.laws.proofs.Pass.{Divided, colon-of, divided-more, divided-none}
 use Rattle.laws.proofs.Rows.{row-end}
@@ -29,9 +30,6 @@ module _ (n m i v L : ℕ) (h : i < m) (k : v < n) (g : m * n ≤ L) where
 
   cell-now : (K : ℕ) → K ≡ L → i * n + v < K
   cell-now K e = omega (arith, row-end n m i h)
-
-room-now : (a L K : ℕ) → a ≤ L → K ≡ L → a ≤ K
-room-now a L K h e = omega arith
 
 pub colon-spec : {M : Type 1} → statement M
 colon-spec =
@@ -61,7 +59,7 @@ colon-spec =
     -- loop-again
     (λ c. let p2 = c .before .before in let p3 = p2 .before in let p5 = p3 .before .before in (next-within (p3 .loop .i) (p5 .args .m) (p2 .loop-test .taken), divided-more (p5 .args .n) (p5 .args .m) (p5 .args .v) (p5 .args .e) (p5 .args .room .now) (p3 .loop .i) (c .less .result) (p3 .loop .room) (p5 .pre .0) (p2 .loop-test .taken) (p5 .pre .1) (c .less .ensures) (p3 .loop .inv .1)))
     -- minimalize-requires
-    (λ c κs. let p2 = c .before .before in let p4 = p2 .before .before in room-now (p4 .args .m * p4 .args .n) (length (p4 .args .room .now)) (length (p2 .loop .room)) (p4 .pre .0) (p2 .loop .inv .1 .len))
+    (λ c κs. let p2 = c .before .before in let p4 = p2 .before .before in le-trans (p4 .pre .0) (le-of-eq (sym (p2 .loop .inv .1 .len))))
     -- same-length
     (λ c. let p2 = c .before .before in let p5 = p2 .before .before .before in p2 .minimalize .ensures .len ∙ p5 .loop .inv .1 .len)
     -- returns

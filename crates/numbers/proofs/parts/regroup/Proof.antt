@@ -1,14 +1,9 @@
-use Prim.Native.Nat.{_*_, _≤_, ℕ}
-use lib.ListN.{length}
-use mathlib.Core.Path.{_≡_}
-use native.Mathlib.Omega.{arith}
+use mathlib.Core.Path.{sym}
+use native.Mathlib.Nat.{le-of-eq, le-trans}
 use Rattle.laws.proofs.Parts.{regrouped-found, regrouped-same}
 use Rattle.laws.proofs.Pass.{thinned-none}
 use Rattle.numbers.proofs.parts.regroup.Statement.{statement}
 use Rattle.numbers.proofs.parts.regroup.Tie as tie
-
-room-now : (a L K : ℕ) → a ≤ L → K ≡ L → a ≤ K
-room-now a L K h e = omega arith
 
 pub regroup-spec : {M : Type 1} → statement M
 regroup-spec =
@@ -27,7 +22,7 @@ regroup-spec =
     -- returns-4
     (λ c. let p3 = c .before .before .before in regrouped-same _ _ _ _ _ _ (p3 .gather .ensures .1))
     -- apart-requires
-    (λ c κs. let p4 = c .before .before .before .before in let p10 = p4 .before .before .before .before .before .before in (room-now (p10 .args .m * p10 .args .n) (length (p10 .args .room .now)) (length (p4 .gather .last .0)) (p10 .pre) (p4 .gather .ensures .1 .len), p4 .gather .ensures .0))
+    (λ c κs. let p4 = c .before .before .before .before in let p10 = p4 .before .before .before .before .before .before in (le-trans (p10 .pre) (le-of-eq (sym (p4 .gather .ensures .1 .len))), p4 .gather .ensures .0))
     -- same-length-2
     (λ c. let p6 = c .before .before .before .before .before .before in p6 .gather .ensures .1 .len)
     -- returns-5
