@@ -4,6 +4,7 @@ use mathlib.Core.Logic.{inl, inr, ⊎-elim}
 use mathlib.Core.Path.{_≡_, subst}
 use native.Mathlib.Nat.{le-trans, mul-le-mul-right}
 use native.Mathlib.Omega.{arith}
+use Rattle.laws.proofs.Column.{above}
 use Rattle.laws.proofs.Parts.{Sided, sided-end, sided-more, sided-none}
 use Rattle.numbers.proofs.Steps.{loop-ended, next-fits, next-less, next-within, zero-least}
 use Rattle.numbers.proofs.parts.apart.Statement.{statement}
@@ -40,6 +41,6 @@ apart-spec =
     -- loop-less
     (λ c. let p2 = c .before .before in let p3 = p2 .before in let p5 = p3 .before .before in next-less (p3 .loop .v) (p5 .args .n) (p2 .loop-test .taken))
     -- loop-again
-    (λ c. let p1 = c .before in let p2 = p1 .before in let p3 = p2 .before in let p5 = p3 .before .before in (next-within (p3 .loop .v) (p5 .args .n) (p2 .loop-test .taken), sided-more _ _ _ _ _ (⊎-elim (λ w. inl (none-first _ _ (w .1 .ensures) (w .2 .left))) (λ w. inr (none-later _ _ _ (p1 .count-above .ensures) (w .left))) (c .if1 .came)) (p3 .loop .inv .1)))
+    (λ c. let p1 = c .before in let p2 = p1 .before in let p3 = p2 .before in let p5 = p3 .before .before in (next-within (p3 .loop .v) (p5 .args .n) (p2 .loop-test .taken), sided-more _ _ _ _ _ (⊎-elim (λ w. inl (none-first (w .1 .result) (above (p5 .args .n) (p3 .loop .v) 1 (p5 .args .room .now) (p5 .args .b)) (w .1 .ensures) (w .2 .left))) (λ w. inr (none-later (above (p5 .args .n) (p3 .loop .v) 1 (p5 .args .room .now) (p5 .args .b)) (p1 .count-above .result) (above (p5 .args .n) (p3 .loop .v) 1 (p5 .args .room .now) (p5 .args .m)) (p1 .count-above .ensures) (w .left))) (c .if1 .came)) (p3 .loop .inv .1)))
     -- returns-2
     (λ c. let p1 = c .before in let p3 = p1 .before .before in λ h. sided-end (p3 .args .n) (p3 .args .b) (p3 .args .m) (p3 .args .room .now) (p3 .pre .0) (p3 .pre .1) (subst (λ (v : ℕ). Sided (p3 .args .n) (p3 .args .b) (p3 .args .m) (p3 .args .room .now) v) (loop-ended (p1 .loop .v) (p3 .args .n) (p1 .loop .inv .0) (c .loop-test .left)) (p1 .loop .inv .1))))

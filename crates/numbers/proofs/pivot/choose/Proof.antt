@@ -51,6 +51,6 @@ choose-spec =
     -- loop-less
     (λ c. let p3 = c .before .before .before in let p4 = p3 .before in let p11 = p4 .before .before .before .before .before .before .before in next-less (p4 .loop .i) (p11 .args .m) (p3 .loop-test .taken))
     -- loop-again
-    (λ c. let p4 = c .before .before .before .before in let g = p4 .loop .inv in ⊎-elim (λ w. rw (w .3) (g .0, g .1, g .2, some-more _ _ (w .0 .taken), two-reach _ _ _ (g .0) (w .2 .taken) (w .1 .ensures))) (⊎-elim (λ w. rw (w .3) g) (λ w. rw (w .1) g)) (c .if2 .came))
+    (λ c. let p2 = c .before .before in let p4 = p2 .before .before in let p9 = p4 .before .before .before .before .before in let p11 = p9 .before .before in let g = p4 .loop .inv in ⊎-elim (λ w. rw (w .3) (g .0, g .1, g .2, some-more (p4 .loop .p .e) (p2 .exponent .result) (w .0 .taken), two-reach (p9 .shared .result .count - p9 .shared .result .count / 3) (w .1 .result) (above (p11 .args .n) (p4 .loop .p .v) (p2 .exponent .result) (p11 .args .room .now) (p11 .args .m)) (g .0) (w .2 .taken) (w .1 .ensures))) (⊎-elim (λ w. rw (w .3) g) (λ w. rw (w .1) g)) (c .if2 .came))
     -- returns-2
     (λ c. let p1 = c .before in let g = p1 .loop .inv in record { shared = λ q. (g .2, g .3, g .4); coprime = λ q. absurd (two-not-few _ (g .1) q) }))

@@ -46,6 +46,6 @@ shared-spec =
     -- loop-less
     (λ c. let p2 = c .before .before in let p3 = p2 .before in let p6 = p3 .before .before .before in next-less (p3 .loop .v) (p6 .args .n) (p2 .loop-test .taken))
     -- loop-again
-    (λ c. let p1 = c .before in let p2 = p1 .before in let p3 = p2 .before in let p6 = p3 .before .before .before in (next-within (p3 .loop .v) (p6 .args .n) (p2 .loop-test .taken), below-more _ _ (p3 .loop .inv .1) (few-have _ _ (c .if3 .left) (p1 .count-above2 .ensures))))
+    (λ c. let p1 = c .before in let p2 = p1 .before in let p3 = p2 .before in let p6 = p3 .before .before .before in (next-within (p3 .loop .v) (p6 .args .n) (p2 .loop-test .taken), below-more _ _ (p3 .loop .inv .1) (few-have (p1 .count-above2 .result) (above (p6 .args .n) (p3 .loop .v) 1 (p6 .args .room .now) (p6 .args .m)) (c .if3 .left) (p1 .count-above2 .ensures))))
     -- returns-3
     (λ c. let p1 = c .before in let p4 = p1 .before .before .before in none-have (p4 .args .n) (p4 .args .m) (p1 .loop .v) (p4 .args .room .now) (p4 .pre) (c .loop-test .left) (p1 .loop .inv .1)))
