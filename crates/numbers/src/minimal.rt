@@ -11,7 +11,7 @@ ghost use Rattle.laws.proofs.Rows.{at};
 ghost use Rattle.laws.proofs.Pass.{Thinned, ColonOf};
 
 // Whether the monomial a divides b.
-fn divides(a: &[u16], b: &[u16]) -> bool
+pub(crate) fn divides(a: &[u16], b: &[u16]) -> bool
     requires { ⌜ length (now a) ≡ length (now b) ⌝ }
     ensures { λ r. ⌜ r ≡ dividesCells (now (a .entry)) (now (b .entry)) ⌝ }
 {
@@ -46,7 +46,7 @@ fn divisor(room: &[u16], n: usize, m: usize, i: usize, having: u64) -> usize
     m
 }
 
-// The bits with bit `from` put in the place of bit `to`: what the rows' exchange does to them.
+// The bits with bit `from` put in the place of bit `to`, both modulo 64: what the rows' exchange does to them.
 fn moved(bits: u64, from: usize, to: usize) -> u64 {
     let t = to % 64;
     let b = (bits >> (from % 64)) & 1;
