@@ -49,8 +49,7 @@ fn masks_of(room: &[u16], n: usize, s: usize) -> [[u64; 2]; 60]
     let mut m = [[0u64; 2]; 60];
     let mut i: usize = 0;
     while i < s {
-        let p = two_words(n, most, row(room, n, i));
-        m[i] = p;
+        m[i] = two_words(n, most, row(room, n, i));
         i += 1;
     }
     m
