@@ -2,14 +2,17 @@
 --   wordsOf o    == the two words of a mask, zeros where it was refused
 -- In this file:
 --   words-are    at a width that is not refused they are the mask
+--   mask-fits    the place of one, in bytes
 --   masks-next   one mask more
 use mathlib.Core.Path.{_≡_, refl, sym, ap, _∙_}
 use mathlib.Core.List.{List, [], _∷_, _++_, map, map-append, append-assoc}
-use Prim.Native.Nat.{ℕ, suc, _+_, _-_, _≤_, _<_}
+use Prim.Native.Nat.{ℕ, suc, _+_, _*_, _-_, _≤_, _<_}
 use native.Mathlib.Omega.{arith}
 use lib.ListN.{length, set, replicate, length-map}
 use lib.Seq.{set-at}
 use borrow.Author.Tests.{le-ltb}
+use mir.Syntax.{w64}
+use mir.Val.{Fits}
 use Rattle.laws.specs.Ideal.{listed}
 use Rattle.laws.specs.Mask.{mask}
 use Rattle.laws.proofs.Ideal.{listed-count}
@@ -26,6 +29,9 @@ wordsOf (Refused r) = 0 ∷ 0 ∷ []
 
 pub words-are : (n M : ℕ) (row : List ℕ) (a : MaskAnswer) → n ≤ 255 → a ≡ maskAnswer 255 n M row → wordsOf (a .outcome) ≡ mask n M row
 words-are n M row a h e = ap (λ (b : MaskAnswer). wordsOf (b .outcome)) e ∙ rw (le-ltb 255 n h)
+
+pub mask-fits : (i s : ℕ) → i < s → s ≤ 60 → Fits w64 (i * 16)
+mask-fits i s h g = omega arith
 
 module _ (n M : ℕ) (xs : List ℕ) (i : ℕ) (h : i < 60) where
   left : 60 - i ≡ suc (60 - (i + 1))

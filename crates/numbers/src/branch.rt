@@ -11,17 +11,18 @@ pub(crate) fn sum_branch(room: &mut [u16], n: usize, m: usize, v: usize, e: u16)
     requires { ⌜ (m * n + m * n ≤ length (now room)) × (v < n) × (2 ≤ above n v e (now room) m) ⌝ }
     ensures { λ r. ⌜ Branched n m v e (now (room .entry)) r (now (room .exit)) ⌝ }
 {
-    let base = m * n;
+    let mut to = m * n;
     let mut i: usize = 0;
     let mut k: usize = 0;
     while i < m {
         let at = i * n;
         if room[at + v] < e {
-            copy_cells(room, at, base + k * n, n);
+            copy_cells(room, at, to, n);
+            to += n;
             k += 1;
         }
         i += 1;
     }
-    put_power(room, base + k * n, n, v, e);
+    put_power(room, to, n, v, e);
     k + 1
 }

@@ -1,23 +1,17 @@
 // The masks of a whole list, by which most divisions are ruled out without a look at the exponents: the first minimal list.
 use crate::asked::greater;
-use crate::minimal::divides;
 use crate::minimal::minimalize;
-use crate::rows::copy_cells;
 use crate::rows::row;
 use monomials::divmask::MaskOutcome;
 use monomials::divmask::mask;
-ghost use mathlib.Core.Bool.{true};
 ghost use mathlib.Core.List.{[], _∷_, _++_, map};
-ghost use mathlib.Core.Logic.{_≢_};
 ghost use mathlib.Core.Path.{_≡_};
 ghost use Prim.Native.Nat.{_-_, _*_, _<_, _≤_};
 ghost use lib.ListN.{length, take, replicate};
 ghost use Rattle.laws.specs.Ideal.{listed};
 ghost use Rattle.laws.specs.Mask.{mask as maskOf};
-ghost use Rattle.laws.specs.Monomial.{divides as dividesCells};
 ghost use Rattle.laws.proofs.Asked.{greatest};
 ghost use Rattle.laws.proofs.Pass.{Thinned};
-ghost use Rattle.laws.proofs.Rows.{at};
 
 // The greatest exponent in the cells.
 fn greatest_of(cells: &[u16]) -> u16
@@ -26,8 +20,7 @@ fn greatest_of(cells: &[u16]) -> u16
     let mut best: u16 = 0;
     let mut i: usize = 0;
     while i < cells.len() {
-        let x = cells[i];
-        best = greater(best, x);
+        best = greater(best, cells[i]);
         i += 1;
     }
     best
@@ -56,76 +49,57 @@ fn masks_of(room: &[u16], n: usize, s: usize) -> [[u64; 2]; 60]
     let mut m = [[0u64; 2]; 60];
     let mut i: usize = 0;
     while i < s {
-        let p = two_words(n, most, row(room, n, i));
-        m[i] = p;
+        m[i] = two_words(n, most, row(room, n, i));
         i += 1;
     }
     m
 }
 
-// Whether the masks allow that monomial k divides monomial i.
-fn allowed(masks: &[[u64; 2]; 60], k: usize, i: usize) -> bool {
-    if k >= 60 {
-        return true;
-    }
-    if i >= 60 {
-        return true;
-    }
-    if (masks[k][0] & !masks[i][0]) != 0 {
-        return false;
-    }
-    (masks[k][1] & !masks[i][1]) == 0
-}
-
-// Another monomial that divides number i, or m.
-fn divisor(room: &[u16], n: usize, m: usize, i: usize, masks: &[[u64; 2]; 60]) -> usize
-    requires { ⌜ (m * n ≤ length (now room)) × (i < m) ⌝ }
-    ensures { λ r. ⌜ (r < m → (r ≢ i) × (dividesCells (at n r (now (room .entry))) (at n i (now (room .entry))) ≡ true)) ⌝ }
+// Whether the masks allow that monomial k divides another one.
+fn may_divide(masks: &[[u64; 2]; 60], s: usize, k: usize) -> bool
+    requires { ⌜ (s ≤ 60) × (k < s) ⌝ }
 {
-    let mut k: usize = 0;
-    while k < m {
-        if k != i {
-            if allowed(masks, k, i) {
-                if divides(row(room, n, k), row(room, n, i)) {
-                    return k;
+    let a = masks[k];
+    let mut i: usize = 0;
+    while i < s {
+        if i != k {
+            let b = masks[i];
+            if a[0] & !b[0] == 0 {
+                if a[1] & !b[1] == 0 {
+                    return true;
                 }
             }
         }
-        k += 1;
+        i += 1;
     }
-    m
+    false
 }
 
-// The list without the monomials that another one divides; how many are left. A monomial that takes another one's place brings its mask.
-fn minimal_by(room: &mut [u16], n: usize, m: usize, masks: [[u64; 2]; 60]) -> usize
-    requires { ⌜ (m * n ≤ length (now room)) × (m ≤ 60) ⌝ }
-    ensures { λ r. ⌜ Thinned n m (now (room .entry)) r (now (room .exit)) ⌝ }
+// The monomials that the masks allow to divide another one, a bit for each. Where they are few, masks cost more than they save.
+fn dividing(room: &[u16], n: usize, s: usize) -> u64
+    requires { ⌜ (s * n ≤ length (now room)) × (s ≤ 60) × (n ≤ 255) ⌝ }
 {
-    let mut held = masks;
-    let mut left = m;
-    let mut i: usize = 0;
-    while i < left {
-        let k = divisor(room, n, left, i, &held);
-        if k < left {
-            left -= 1;
-            copy_cells(room, left * n, i * n, n);
-            let p = held[left];
-            held[i] = p;
-        } else {
-            i += 1;
+    if s < 16 {
+        return 0xffff_ffff_ffff_ffff;
+    }
+    let masks = masks_of(room, n, s);
+    let mut bits: u64 = 0;
+    let mut k = s;
+    while k > 0 {
+        k -= 1;
+        bits = bits << 1;
+        if may_divide(&masks, s, k) {
+            bits = bits | 1;
         }
     }
-    left
+    bits
 }
 
-// The list without the monomials that another one divides; how many are left. Where they are few, masks cost more than they save.
+// The list without the monomials that another one divides; how many are left.
 pub(crate) fn starting_list(room: &mut [u16], n: usize, s: usize) -> usize
     requires { ⌜ (s * n ≤ length (now room)) × (s ≤ 60) × (n ≤ 255) ⌝ }
     ensures { λ r. ⌜ Thinned n s (now (room .entry)) r (now (room .exit)) ⌝ }
 {
-    if s < 16 {
-        return minimalize(room, n, s, 0xffff_ffff_ffff_ffff);
-    }
-    let masks = masks_of(room, n, s);
-    minimal_by(room, n, s, masks)
+    let having = dividing(room, n, s);
+    minimalize(room, n, s, having)
 }

@@ -8,11 +8,11 @@ ghost use Prim.Native.Nat.{_-_, _*_, _<_, _≤_};
 ghost use lib.ListN.{length};
 ghost use Rattle.laws.specs.Monomial.{divides as dividesCells};
 ghost use Rattle.laws.proofs.Rows.{at};
-ghost use Rattle.laws.proofs.Pass.{Thinned, Divided, ColonOf};
+ghost use Rattle.laws.proofs.Pass.{Thinned, ColonOf};
 
 // Whether the monomial a divides b.
 pub(crate) fn divides(a: &[u16], b: &[u16]) -> bool
-    requires { do ⌜ (← ⟦a.len()⟧) ≡ (← ⟦b.len()⟧) ⌝ }
+    requires { ⌜ length (now a) ≡ length (now b) ⌝ }
     ensures { λ r. ⌜ r ≡ dividesCells (now (a .entry)) (now (b .entry)) ⌝ }
 {
     let mut i: usize = 0;
@@ -46,18 +46,11 @@ fn divisor(room: &[u16], n: usize, m: usize, i: usize, having: u64) -> usize
     m
 }
 
-// The bits with bit `from` put in the place of bit `to`: what the rows' exchange does to them.
+// The bits with bit `from` put in the place of bit `to`, both modulo 64: what the rows' exchange does to them.
 fn moved(bits: u64, from: usize, to: usize) -> u64 {
-    if from >= 64 {
-        return bits;
-    }
-    if to >= 64 {
-        return bits;
-    }
-    let one: u64 = 1;
-    let b = (bits >> from) & one;
-    let rest = bits & !(one << to);
-    rest | (b << to)
+    let t = to % 64;
+    let b = (bits >> (from % 64)) & 1;
+    (bits & !(1u64 << t)) | (b << t)
 }
 
 // The list without the monomials that another one whose bit is set divides; how many are left.
@@ -69,8 +62,7 @@ pub(crate) fn minimalize(room: &mut [u16], n: usize, m: usize, having: u64) -> u
     let mut i: usize = 0;
     let mut bits = having;
     while i < left {
-        let k = divisor(room, n, left, i, bits);
-        if k < left {
+        if divisor(room, n, left, i, bits) < left {
             left -= 1;
             copy_cells(room, left * n, i * n, n);
             bits = moved(bits, left, i);
@@ -88,25 +80,16 @@ pub(crate) fn less(x: u16, e: u16) -> u16
     if x < e { 0 } else { x - e }
 }
 
-// Each monomial's quotient by variable v to the e.
-fn divide_all(room: &mut [u16], n: usize, m: usize, v: usize, e: u16)
-    requires { ⌜ (m * n ≤ length (now room)) × (v < n) ⌝ }
-    ensures { λ _. ⌜ Divided n m v e (now (room .entry)) m (now (room .exit)) ⌝ }
-{
-    let mut i: usize = 0;
-    while i < m {
-        let at = i * n + v;
-        let x = room[at];
-        room[at] = less(x, e);
-        i += 1;
-    }
-}
-
 // The list : variable v to the e, without those that one whose bit is set divides; how many.
 pub(crate) fn colon(room: &mut [u16], n: usize, m: usize, v: usize, e: u16, having: u64) -> usize
     requires { ⌜ (m * n ≤ length (now room)) × (v < n) ⌝ }
     ensures { λ r. ⌜ ColonOf n m v e (now (room .entry)) r (now (room .exit)) ⌝ }
 {
-    divide_all(room, n, m, v, e);
+    let mut i: usize = 0;
+    while i < m {
+        let at = i * n + v;
+        room[at] = less(room[at], e);
+        i += 1;
+    }
     minimalize(room, n, m, having)
 }

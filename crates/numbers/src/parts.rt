@@ -1,11 +1,10 @@
 // A list in two parts with no variable in common.
-use crate::rows::exchange;
-ghost use mathlib.Core.Bool.{true, false};
-ghost use mathlib.Core.Logic.{_⊎_};
+use crate::pivot::count_above;
+use crate::rows::swap;
+ghost use mathlib.Core.Bool.{true};
 ghost use mathlib.Core.Path.{_≡_};
 ghost use Prim.Native.Nat.{_-_, _*_, _<_, _≤_};
 ghost use lib.ListN.{length, drop};
-ghost use Rattle.laws.proofs.Column.{above};
 ghost use Rattle.laws.proofs.Parts.{Regrouped};
 ghost use Rattle.laws.proofs.Pass.{Thinned};
 ghost use Rattle.laws.proofs.Rows.{rows};
@@ -21,39 +20,15 @@ fn gather(room: &mut [u16], n: usize, m: usize, part: u64) -> usize
     let mut i: usize = 0;
     while i < m {
         if bits % 2 == 0 {
-            exchange(room, n, m, k, i);
+            if k < i {
+                swap(room, n, k, i);
+            }
             k += 1;
         }
         bits = bits / 2;
         i += 1;
     }
     k
-}
-
-// Whether one of the monomials from number i up to m has variable v.
-fn has(room: &[u16], n: usize, i: usize, m: usize, v: usize) -> bool
-    requires { ⌜ (m * n ≤ length (now room)) × (v < n) × (i ≤ m) ⌝ }
-    ensures { λ r. ⌜ (r ≡ false → above n v 1 (now (room .entry)) m ≡ above n v 1 (now (room .entry)) i) ⌝ }
-{
-    let mut j: usize = i;
-    while j < m {
-        if room[j * n + v] > 0 {
-            return true;
-        }
-        j += 1;
-    }
-    false
-}
-
-// Whether variable v is in one of the first b monomials and in one of the others.
-fn both(room: &[u16], n: usize, b: usize, m: usize, v: usize) -> bool
-    requires { ⌜ (m * n ≤ length (now room)) × (v < n) × (b ≤ m) ⌝ }
-    ensures { λ r. ⌜ (r ≡ false → (above n v 1 (now (room .entry)) b ≡ 0) ⊎ (above n v 1 (now (room .entry)) m ≤ above n v 1 (now (room .entry)) b)) ⌝ }
-{
-    if has(room, n, 0, b, v) {
-        return has(room, n, b, m, v);
-    }
-    false
 }
 
 // Whether the first b monomials have no variable in common with the others.
@@ -63,8 +38,10 @@ fn apart(room: &[u16], n: usize, b: usize, m: usize) -> bool
 {
     let mut v: usize = 0;
     while v < n {
-        if both(room, n, b, m, v) {
-            return false;
+        if count_above(room, n, b, m, v, 1) > 0 {
+            if count_above(room, n, 0, b, v, 1) > 0 {
+                return false;
+            }
         }
         v += 1;
     }

@@ -4,7 +4,7 @@ ghost use mathlib.Core.Path.{_≡_};
 ghost use Prim.Native.Nat.{_+_, _*_, _<_, _≤_};
 ghost use lib.ListN.{length, getD, replicate};
 ghost use Rattle.laws.proofs.Rows.{Wrote, at, axis};
-ghost use Rattle.laws.proofs.Pass.{Swapped, Thinned};
+ghost use Rattle.laws.proofs.Pass.{Swapped};
 
 // Monomial i, as a part of the room.
 pub(crate) fn row(room: &[u16], n: usize, i: usize) -> &[u16]
@@ -32,8 +32,7 @@ pub(crate) fn copy_cells(room: &mut [u16], from: usize, to: usize, n: usize)
 {
     let mut i: usize = 0;
     while i < n {
-        let x = room[from + i];
-        room[to + i] = x;
+        room[to + i] = room[from + i];
         i += 1;
     }
 }
@@ -61,27 +60,21 @@ pub(crate) fn wipe(room: &mut [u16])
     }
 }
 
-// The exponent of variable j in variable v to the e.
-fn cell(j: usize, v: usize, e: u16) -> u16
-    ensures { λ r. ⌜ r ≡ getD (axis v e) j 0 ⌝ }
-{
-    if j == v { e } else { 0 }
-}
-
 // Variable v to the e, in n cells from `to`.
 pub(crate) fn put_power(room: &mut [u16], to: usize, n: usize, v: usize, e: u16)
-    requires { ⌜ to + n ≤ length (now room) ⌝ }
+    requires { ⌜ (to + n ≤ length (now room)) × (v < n) ⌝ }
     ensures { λ _. ⌜ Wrote (now (room .entry)) (λ j. getD (axis v e) j 0) to n (now (room .exit)) ⌝ }
 {
     let mut i: usize = 0;
     while i < n {
-        room[to + i] = cell(i, v, e);
+        room[to + i] = 0;
         i += 1;
     }
+    room[to + v] = e;
 }
 
 // Monomials i and j, exchanged.
-fn swap(room: &mut [u16], n: usize, i: usize, j: usize)
+pub(crate) fn swap(room: &mut [u16], n: usize, i: usize, j: usize)
     requires { ⌜ (i < j) × ((j + 1) * n ≤ length (now room)) ⌝ }
     ensures { λ _. ⌜ Swapped (i * n) (j * n) (now (room .entry)) n (now (room .exit)) ⌝ }
 {
@@ -97,15 +90,4 @@ fn swap(room: &mut [u16], n: usize, i: usize, j: usize)
         room[q] = x;
         t += 1;
     }
-}
-
-// The same m monomials, number j exchanged with number i before it.
-pub(crate) fn exchange(room: &mut [u16], n: usize, m: usize, i: usize, j: usize)
-    requires { ⌜ (m * n ≤ length (now room)) × (j < m) ⌝ }
-    ensures { λ _. ⌜ Thinned n m (now (room .entry)) m (now (room .exit)) ⌝ }
-{
-    if i >= j {
-        return;
-    }
-    swap(room, n, i, j);
 }

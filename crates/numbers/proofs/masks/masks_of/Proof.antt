@@ -1,15 +1,12 @@
-use Prim.Native.Nat.{_*_, _-_, _<_, _≤_, ℕ}
+use Prim.Native.Nat.{_*_, _-_, _≤_, ℕ}
 use lib.ListN.{length, replicate, take}
 use mathlib.Core.List.{[], _++_, _∷_, map}
 use mathlib.Core.Path.{_∙_, _≡_, ap, ap₂, refl}
-use mir.Syntax.{w64}
-use mir.Val.{Fits}
 use native.Mathlib.Nat.{lt-of-lt-of-le, sub-zero}
-use native.Mathlib.Omega.{arith}
 use Rattle.laws.proofs.Asked.{greatest}
 use Rattle.laws.specs.Ideal.{listed}
 use Rattle.laws.specs.Mask.{mask}
-use Rattle.numbers.proofs.MaskArray.{masks-next}
+use Rattle.numbers.proofs.MaskArray.{mask-fits, masks-next}
 use Rattle.numbers.proofs.Steps.{fits-most, loop-ended, next-fits, next-less, next-within, row-in, zero-least}
 use Rattle.numbers.proofs.masks.masks_of.Statement.{statement}
 use Rattle.numbers.proofs.masks.masks_of.Tie as tie
@@ -19,9 +16,6 @@ Inv-loop room n s e most m₀ i₀ m i = (i ≤ s) × (most ≡ greatest (take (
 
 abbrev μ-loop : tie.MeasureT-loop
 μ-loop room n s e most m₀ i₀ m i = s - i
-
-fits-sixteen : (i s : ℕ) → i < s → s ≤ 60 → Fits w64 (i * 16)
-fits-sixteen i s h g = omega arith
 
 pub masks-of-spec : {M : Type 1} → statement M
 masks-of-spec =
@@ -45,7 +39,7 @@ masks-of-spec =
     -- two-words-requires
     (λ c κs. let p6 = c .before .before .before .before .before .before in p6 .pre .2)
     -- mul-m
-    (λ c. let p2 = c .before .before in let p3 = p2 .before in let p7 = p3 .before .before .before .before in fits-sixteen (p3 .loop .i) (p7 .args .s) (p2 .loop-test .taken) (p7 .pre .1))
+    (λ c. let p2 = c .before .before in let p3 = p2 .before in let p7 = p3 .before .before .before .before in mask-fits (p3 .loop .i) (p7 .args .s) (p2 .loop-test .taken) (p7 .pre .1))
     -- array-set-from-m
     (λ c. let p2 = c .before .before in let p7 = p2 .before .before .before .before .before in lt-of-lt-of-le (p2 .loop-test .taken) (p7 .pre .1))
     -- add-i

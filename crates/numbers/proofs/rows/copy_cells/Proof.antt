@@ -20,11 +20,11 @@ copy-cells-spec =
     μ-loop
     -- loop-holds
     (λ c. (zero-least (c .args .n), wrote-none (c .args .room .now) (λ j. getD (c .args .room .now) (c .args .from + j) 0) (c .args .to)))
-    -- add-x
+    -- add-room
     (λ c. let p1 = c .before in let p2 = p1 .before in offset-fits (p2 .args .from) (p1 .loop .i) (p2 .args .n) (length (p2 .args .room .now)) (c .loop-test .taken) (p2 .pre .0 .0) (p2 .good .0 .0))
-    -- mul-x
+    -- mul-room
     (λ c. let p1 = c .before in let p2 = p1 .before in offset-bytes (p2 .args .from) (p1 .loop .i) (p2 .args .n) (length (p2 .args .room .now)) (c .loop-test .taken) (p2 .pre .0 .0) (p2 .good .0 .1))
-    -- slice-read-x
+    -- slice-read-room
     (λ c. let p1 = c .before in let p2 = p1 .before in let p3 = p2 .before in offset-now (p3 .args .from) (p2 .loop .i) (p3 .args .n) (length (p3 .args .room .now)) (length (p2 .loop .room)) (p1 .loop-test .taken) (p3 .pre .0 .0) (p2 .loop .inv .1 .len))
     -- add-room
     (λ c. let p1 = c .before in let p2 = p1 .before in let p3 = p2 .before in offset-fits (p3 .args .to) (p2 .loop .i) (p3 .args .n) (length (p3 .args .room .now)) (p1 .loop-test .taken) (p3 .pre .0 .1) (p3 .good .0 .0))
