@@ -4,9 +4,8 @@
 --   greatest xs        == the greatest number in xs, 0 for none
 -- In this file:
 --   at-first, at-second, columns   a column of both lists, cell by cell, and its length
---   first-cell, second-cell      the cell is there, and its place no large number
 --   holds-next, holds-end        whether a number stands in the rest of a list
---   distinct-next, distinct-end  how many different numbers stand in the rest; distinct-most: at most its length
+--   distinct-next                how many different numbers stand in the rest; distinct-most: at most its length
 --   greatest-next, greatest-end  the greatest of the rest
 --   pairs-most                   e is at most n times the count
 --   lcm-degree                   the degree of the lcm of all: the greatest exponents added
@@ -15,16 +14,16 @@
 use mathlib.Core.Path.{_≡_, refl, sym, ap, ap₂, _∙_}
 use mathlib.Core.Logic.{inl}
 use mathlib.Core.Bool.{Bool, true, false, _||_, cond}
-use mathlib.Core.List.{List, [], _∷_, _++_, map}
+use mathlib.Core.List.{List, [], _∷_, _++_}
 use Prim.Native.Nat.{ℕ, zero, suc, _+_, _*_, _-_, _≤_, _<_, max}
 use native.Mathlib.Omega.{arith}
-use native.Mathlib.Nat.{suc-mul, zero-mul, mul-le-mul, mul-le-mul-left, mul-le-mul-right, mul-comm, mul-assoc}
+use native.Mathlib.Nat.{suc-mul, zero-mul, mul-le-mul, mul-le-mul-left, mul-comm, mul-assoc}
 use native.Mathlib.Numerals.{add-one}
 use lib.Dec.{eqb}
-use lib.ListN.{length, length-append, List·getD-append, take, drop, getD, drop-of-length-le, List·getD-eq-default}
+use lib.ListN.{length, length-append, List·getD-append, drop, getD, drop-of-length-le, List·getD-eq-default}
 use lib.Seq.{drop-cons, getD-take, getD-drop, getD-append-add}
 use Rattle.laws.specs.Monomial.{degree, exponent, lcm}
-use Rattle.laws.specs.Ideal.{listed, In, Within, lcmOf}
+use Rattle.laws.specs.Ideal.{listed, Within, lcmOf}
 use Rattle.laws.specs.Room.{holds, distinct, column, pairs, cellsAsked, coefficientsAsked}
 use Rattle.laws.specs.Sums.{sumBelow}
 use Rattle.laws.proofs.Monomial.{length-lcm}
@@ -88,9 +87,6 @@ holds-end x xs i h = ap (holds x) (drop-of-length-le xs h)
 
 pub distinct-next : (xs : List ℕ) (i : ℕ) → i < length xs → distinct (drop i xs) ≡ cond (eqb (getD xs i 0) 0 || holds (getD xs i 0) (drop (i + 1) xs)) (distinct (drop (i + 1) xs)) (suc (distinct (drop (i + 1) xs)))
 distinct-next xs i h = ap distinct (rest xs i h)
-
-pub distinct-end : (xs : List ℕ) (i : ℕ) → length xs ≤ i → distinct (drop i xs) ≡ 0
-distinct-end xs i h = ap distinct (drop-of-length-le xs h)
 
 distinct-one : (b : Bool) (x y : ℕ) → x ≤ y → cond b x (suc x) ≤ suc y
 distinct-one true x y h = omega arith
@@ -177,30 +173,6 @@ pub record Lists (n s : ℕ) (xs : List ℕ) (t : ℕ) (ys : List ℕ) : Type 0 
   pub width : n ≤ 4096
   pub count : s + t ≤ 4096
 
-module _ {n s t : ℕ} {xs ys : List ℕ} (l : Lists n s xs t ys) (v : ℕ) where
-  pub count-step : (i count x : ℕ) (held : Bool) → i < s + t → x ≡ getD (column (both n s xs t ys) v) i 0 → held ≡ holds x (drop (i + 1) (column (both n s xs t ys) v))
-      → count + distinct (drop i (column (both n s xs t ys) v)) ≡ distinct (column (both n s xs t ys) v)
-      → cond (eqb x 0 || held) count (suc count) + distinct (drop (i + 1) (column (both n s xs t ys) v)) ≡ distinct (column (both n s xs t ys) v)
-  count-step i count x held h e f g =
-      let xs′ : List ℕ = column (both n s xs t ys) v in
-      swap (eqb x 0 || held) count (distinct (drop (i + 1) xs′))
-      ∙ ap (λ (d : ℕ). count + d)
-      (rw (f, e) (sym (distinct-next xs′ i (omega (arith, column-length n s xs t ys v)))))
-      ∙ g
-    where
-      swap : (b : Bool) (c d : ℕ) → cond b c (suc c) + d ≡ c + cond b d (suc d)
-      swap true c d = refl
-      swap false c d = omega arith
-
-  -- how many different exponents a variable has, and how many pairs the first variables
-  pub count-most : distinct (column (both n s xs t ys) v) ≤ 4096
-  count-most = omega (arith, distinct-most (column (both n s xs t ys) v), column-length n s xs t ys v, l .count)
-
-  pub greatest-step : (i best x : ℕ) → i < s + t → x ≡ getD (column (both n s xs t ys) v) i 0 → max best (greatest (drop i (column (both n s xs t ys) v))) ≡ greatest (column (both n s xs t ys) v)
-      → max (max best x) (greatest (drop (i + 1) (column (both n s xs t ys) v))) ≡ greatest (column (both n s xs t ys) v)
-  greatest-step i best x h e g =
-      omega (arith, greatest-next (column (both n s xs t ys) v) i (omega (arith, column-length n s xs t ys v)))
-
 module _ {n s t : ℕ} {xs ys : List ℕ} (l : Lists n s xs t ys) where
   pub at-first : (v i : ℕ) → v < n → i < s → getD (column (both n s xs t ys) v) i 0 ≡ getD xs (i * n + v) 0
   at-first = column-first n s xs t ys
@@ -210,22 +182,6 @@ module _ {n s t : ℕ} {xs ys : List ℕ} (l : Lists n s xs t ys) where
 
   pub columns : (v : ℕ) → length (column (both n s xs t ys) v) ≡ s + t
   columns = column-length n s xs t ys
-
-  -- a cell is there, and its place no large number
-  pub first-cell : (i v : ℕ) → i < s → v < n → (i * n + v < length xs) × (i * n + v ≤ 4096 * 4096)
-  first-cell i v h g =
-      let a : suc i * n ≤ s * n = mul-le-mul-right n h in
-      let k : s ≤ 4096 = omega (arith, l .count) in
-      let b : s * n ≤ 4096 * 4096 = mul-le-mul k (l .width) in
-      (omega (arith, suc-mul i n, l .first), omega (arith, suc-mul i n))
-
-  pub second-cell : (i v : ℕ) → s ≤ i → i < s + t → v < n → ((i - s) * n + v < length ys) × ((i - s) * n + v ≤ 4096 * 4096)
-  second-cell i v h k g =
-      let r : suc (i - s) ≤ t = omega arith in
-      let a : suc (i - s) * n ≤ t * n = mul-le-mul-right n r in
-      let c : t ≤ 4096 = omega (arith, l .count) in
-      let b : t * n ≤ 4096 * 4096 = mul-le-mul c (l .width) in
-      (omega (arith, suc-mul (i - s) n, l .second), omega (arith, suc-mul (i - s) n))
 
   -- no size overflows
   pub pairs-small : pairs n (both n s xs t ys) ≤ 4096 * 4096

@@ -1,11 +1,8 @@
 -- One variable's exponents in the first i monomials of a list of cells, and the choice of a variable to split on.
 --   above n v e xs i                == how many of the first i monomials have variable v at least e times
---   Counted n v xs i count least    == count of the first i monomials have variable v, each of them at least `least` times
---   Chosen n m xs w count v e       == count is the most that one of the first w variables is in; if it is two or more, v is such a
---                                      variable and e an exponent that two monomials reach
---   Choosing n m xs count v e       == the same of all variables: two monomials reach v to the e, or the list is pairwise coprime
--- In this file: how `above` grows, the loops' steps, and that a list each of whose variables is in one monomial at most is pairwise coprime.
-use mathlib.Core.Path.{_≡_, refl, sym, ap, ap₂, _∙_}
+--   Choosing n m xs count v e       == two monomials reach v to the e, where count is two or more; else the list is pairwise coprime
+-- In this file: how `above` grows, and that a list each of whose variables is in one monomial at most is pairwise coprime.
+use mathlib.Core.Path.{_≡_, refl, sym, ap, ap₂}
 use mathlib.Core.Logic.{inl, inr}
 use mathlib.Core.Bool.{Bool, true, false, _&&_}
 use mathlib.Core.List.{List, [], _∷_}
@@ -14,7 +11,6 @@ use native.Mathlib.Omega.{arith}
 use native.Mathlib.Numerals.{add-one}
 use lib.Dec.{leb, ltb, eqb}
 use lib.ListN.{length, getD, List·getD-eq-default}
-use borrow.Author.Count.{below-more}
 use borrow.Author.Tests.{le-leb, lt-leb, leb-true, leb-false, ltb-true, ltb-false, eqb-true, eqb-false}
 use Rattle.laws.specs.Monomial.{coprime}
 use Rattle.laws.specs.Count.{bit}
@@ -102,59 +98,7 @@ module _ (n m : ℕ) (xs : List ℕ) (fits : m * n ≤ length xs) (few : (v : �
   pairwise-coprime zero h = tt
   pairwise-coprime (suc k) h = (all-coprime k k (omega arith) (omega arith), pairwise-coprime k (omega arith))
 
--- the loops of the choice: what is known of a column after i rows, and of the best of the first w columns
-pub record Counted (n v : ℕ) (xs : List ℕ) (i count least : ℕ) : Type 0 where
-  pub count-is : count ≡ above n v 1 xs i
-  pub positive : 0 < least
-  pub all : count ≤ above n v least xs i
-
-pub counted-none : (n v e : ℕ) (xs : List ℕ) → 0 < e → Counted n v xs 0 0 e
-counted-none n v e xs h = record { count-is = refl; positive = h; all = omega arith }
-
-pub counted-skip : (n v i count least : ℕ) (xs : List ℕ) → getD xs (i * n + v) 0 ≤ 0 → Counted n v xs i count least → Counted n v xs (i + 1) count least
-counted-skip n v i count least xs h c =
-    record {
-      count-is = c .count-is ∙ sym (above-no n v 1 i xs (omega arith));
-      positive = c .positive;
-      all = omega (arith, c .all, above-no n v least i xs (omega (arith, c .positive)));
-    }
-
-pub counted-more : (n v i count least to : ℕ) (xs : List ℕ) → 0 < getD xs (i * n + v) 0 → to ≤ least → to ≤ getD xs (i * n + v) 0 → 0 < to → Counted n v xs i count least → Counted n v xs (i + 1) (count + 1) to
-counted-more n v i count least to xs h l g p c =
-    record {
-      count-is = omega (arith, c .count-is, above-yes n v 1 i xs h);
-      positive = p;
-      all = omega (arith, c .all, above-yes n v to i xs g, above-mono n v to least xs i l);
-    }
-
-pub record Chosen (n m : ℕ) (xs : List ℕ) (w count v e : ℕ) : Type 0 where
-  pub shared : 2 ≤ count → (v < n) × (0 < e) × (2 ≤ above n v e xs m)
-  pub most : (z : ℕ) → z < w → above n z 1 xs m ≤ count
-
-pub chosen-none : (n m : ℕ) (xs : List ℕ) → Chosen n m xs 0 0 0 1
-chosen-none n m xs = record { shared = λ h. absurd (omega arith); most = λ z h. absurd (omega arith) }
-
-pub chosen-keep : (n m w : ℕ) (xs : List ℕ) (count v e k l : ℕ) → k ≤ count → Counted n w xs m k l → Chosen n m xs w count v e → Chosen n m xs (w + 1) count v e
-chosen-keep n m w xs count v e k l h d c = record { shared = c .shared; most = below-more _ _ (c .most) (omega (arith, d .count-is)) }
-
-pub chosen-take : (n m w : ℕ) (xs : List ℕ) (count v e k l : ℕ) → w < n → count < k → Counted n w xs m k l → Chosen n m xs w count v e → Chosen n m xs (w + 1) k w l
-chosen-take n m w xs count v e k l g h d c =
-    record {
-      shared = λ q. (g, d .positive, omega (arith, d .all));
-      most = below-more _ _ (λ z q. let r = c .most z q in omega arith) (omega (arith, d .count-is));
-    }
-
 -- what the choice says
 pub record Choosing (n m : ℕ) (xs : List ℕ) (count v e : ℕ) : Type 0 where
   pub shared : 2 ≤ count → (v < n) × (0 < e) × (2 ≤ above n v e xs m)
   pub coprime : count < 2 → PairwiseCoprime (rows n m xs)
-
-pub choosing : (n m : ℕ) (xs : List ℕ) (w count v e : ℕ) → m * n ≤ length xs → n ≤ w → Chosen n m xs w count v e → Choosing n m xs count v e
-choosing n m xs w count v e h l c =
-    record { shared = c .shared; coprime = λ q. pairwise-coprime n m xs h (λ z g. let r = c .most z (omega arith) in omega arith) m (omega arith) }
-
-pub choosing-at : (n m : ℕ) (xs : List ℕ) (count v e d : ℕ) → 2 ≤ count → 0 < d → 2 ≤ above n v d xs m → Choosing n m xs count v e → Choosing n m xs count v d
-choosing-at n m xs count v e d h p l c = record { shared = λ q. (c .shared q .0, p, l); coprime = λ q. absurd (omega arith) }
-
-pub choosing-one : (n m v : ℕ) (xs : List ℕ) (count least : ℕ) → v < n → 2 ≤ count → Counted n v xs m count least → Choosing n m xs count v least
-choosing-one n m v xs count least h g c = record { shared = λ q. (h, c .positive, omega (arith, c .all)); coprime = λ q. absurd (omega arith) }

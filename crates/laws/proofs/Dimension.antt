@@ -21,7 +21,6 @@
 --   degree-bound-lt               it is greater than D
 --   dimension-lt, hf-lt           where it is below P, so are the dimension and HF(0), .., HF(D)
 --   hf-residue                    and the numerator's n-fold sums modulo P are HF
---   dimension-below               the dimension as a sum of D + 1 terms
 use mathlib.Core.Path.{_≡_, refl, sym, ap, ap₂, _∙_}
 use mathlib.Core.Logic.{_⊎_, inl, inr, _≢_, _↔_}
 use mathlib.Core.Bool.{Bool, true, false, not, _&&_, cond, false≢true}
@@ -29,7 +28,6 @@ use mathlib.Core.List.{List, [], _∷_}
 use Prim.Native.Nat.{ℕ, zero, suc, _+_, _*_, _-_, _≤_, _<_, min}
 use native.Mathlib.Omega.{arith}
 use native.Mathlib.Nat.{one-le-mul, suc-mul, le-mul-of-pos-right, lt-of-le-of-lt, mod-eq-of-lt}
-use native.Mathlib.Numerals.{add-one}
 use lib.Dec.{leb, eqb, eqb·suc-zero}
 use lib.ListN.{length, length-append}
 use borrow.Author.Tests.{leb-true, leb-false, eqb-true, eqb-false, eq-eqb, ne-eqb, not-true as not-passed}
@@ -44,7 +42,7 @@ use Rattle.laws.specs.Dimension.{purePower, lesser, leastPower, finite, 
 use Rattle.laws.proofs.Monomial.{and-left, and-right, not-true, exponents-divide}
 use Rattle.laws.proofs.Ideal.{divisor-multiple, unit-all}
 use Rattle.laws.proofs.Enumeration.{count-append, count-same, count-none, count-keep, length-keep, equal-eq, in-occurrences, enumeration-once, enumeration-other-degree, enumeration-other-width, enumeration-width, enumeration-degree}
-use Rattle.laws.proofs.Sums.{sum-below, sum-term}
+use Rattle.laws.proofs.Sums.{sum-term}
 use Rattle.laws.proofs.Counting.{numerator-counts}
 use Rattle.laws.proofs.Pigeonhole.{Distinct, once-distinct, InBox, box-bound}
 
@@ -384,6 +382,3 @@ module _ (n : ℕ) (L : List (List ℕ)) (f : finite n L ≡ true) (P : ℕ) (sm
   -- the n-fold sums of the numerator modulo P are the Hilbert function
   pub hf-residue : (k : ℕ) → Within n L → k ≤ degreeBound n L → residue P (sumsℤ n (coefficient (numerator L)) k) ≡ HF L n k
   hf-residue k w h = ap (residue P) (numerator-counts n L k w) ∙ mod-eq-of-lt (hf-lt k h)
-
-pub dimension-below : (n : ℕ) (L : List (List ℕ)) → sumBelow (degreeBound n L + 1) (HF L n) ≡ dimension n L
-dimension-below n L = rw (add-one (degreeBound n L)) (sym (dimension-sum n L ∙ sum-below (HF L n) (degreeBound n L)))

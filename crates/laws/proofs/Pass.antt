@@ -7,8 +7,8 @@
 use mathlib.Core.Path.{_≡_, refl, sym, ap, ap₂, _∙_}
 use mathlib.Core.Logic.{_⊎_, inl, inr, _≢_}
 use mathlib.Core.Bool.{Bool, true, false}
-use mathlib.Core.List.{List, [], _∷_}
-use Prim.Native.Nat.{ℕ, zero, suc, _+_, _*_, _-_, _≤_, _<_}
+use mathlib.Core.List.{List, _∷_}
+use Prim.Native.Nat.{ℕ, suc, _+_, _*_, _-_, _≤_, _<_}
 use native.Mathlib.Omega.{arith}
 use native.Mathlib.Nat.{mul-le-mul-right, suc-mul}
 use native.Mathlib.Numerals.{add-one}
@@ -227,6 +227,3 @@ swapped-multiple n m i j xs ys h l g s u =
 pub thinned-swap : (n m i j : ℕ) (xs ys zs : List ℕ) → i < j → j < m → m * n ≤ length xs → Swapped (i * n) (j * n) ys n zs → Thinned n m xs m ys → Thinned n m xs m zs
 thinned-swap n m i j xs ys zs h l g s t =
     record { len = s .len ∙ t .len; less = omega arith; same = λ u. swapped-multiple n m i j ys zs h l (omega (arith, t .len)) s u ∙ t .same u }
-
-pub thinned-then : (n m : ℕ) (xs ys zs : List ℕ) → Thinned n m ys m zs → Thinned n m xs m ys → Thinned n m xs m zs
-thinned-then n m xs ys zs s t = record { len = s .len ∙ t .len; less = omega arith; same = λ u. s .same u ∙ t .same u }

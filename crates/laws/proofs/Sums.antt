@@ -9,23 +9,14 @@
 --   sums-parts               of integers: those of the positive parts less those of the negative ones
 --   sums-size                of magnitudes: those of the positive parts and those of the negative ones
 --   capped-add               a sum held down to a limit depends on its terms held down alone
---   capped-more              one term more in a sum held down
---   capped-below             and so does a sum of any number of terms
---   capped-sums              and so do n-fold sums
---   capped-stage             one more stage of sums held down is one more fold
 --   capped-reaches           a number held down reaches the limit exactly where the number does
---   capped-large             whether a sum reaches the limit is seen from its terms held down
---   capped-exact             and where it does not, they are the terms themselves
 --   productBelow-ext         a product by values
---   productBelow-le          one of factors that are not 0 grows with their number
 --   sum-term                 a term is at most the sum
---   mod-below, mod-stage     sums of terms modulo P are the sums modulo P, and one more stage of them is one more fold
 --   residue-sum, residue-sums  sums of residues have the residues of the sums
 use mathlib.Core.Path.{_≡_, refl, sym, ap, ap₂, _∙_}
-use mathlib.Core.Logic.{_≢_}
 use mathlib.Core.Bool.{Bool, true, false}
 use Prim.Native.Nat.{ℕ, zero, suc, _+_, _*_, _%_, _≤_, _<_, min}
-use native.Mathlib.Nat.{le-trans, le-mul-of-pos-right, mul-comm, mod-mod, mod-eq-of-lt, add-mod}
+use native.Mathlib.Nat.{mod-eq-of-lt, add-mod}
 use native.Mathlib.Omega.{arith}
 use lib.Dec.{leb, eqb}
 use borrow.Author.Tests.{leb-true, leb-false, le-leb, lt-leb, eqb-true, eqb-false}
@@ -134,31 +125,6 @@ module _ (C : ℕ) where
   pub capped-add : (a a′ b b′ : ℕ) → min a C ≡ min a′ C → min b C ≡ min b′ C → min (a + b) C ≡ min (a′ + b′) C
   capped-add a a′ b b′ h k = omega arith
 
-  pub capped-more : (a b : ℕ) → min (min a C + b) C ≡ min (b + a) C
-  capped-more a b = omega arith
-
-  pub capped-below : (n : ℕ) (f g : ℕ → ℕ) → ((k : ℕ) → k < n → min (f k) C ≡ min (g k) C) → min (sumBelow n f) C ≡ min (sumBelow n g) C
-  capped-below zero f g h = refl
-  capped-below (suc n) f g h =
-      capped-add (f n) (g n) (sumBelow n f) (sumBelow n g) (h n (omega arith)) (capped-below n f g (λ k l. h k (omega arith)))
-
-  pub capped-sums : (n m : ℕ) (f g : ℕ → ℕ) → ((k : ℕ) → k < m → min (f k) C ≡ min (g k) C) → (k : ℕ) → k < m → min (sums n f k) C ≡ min (sums n g k) C
-  capped-sums zero m f g h k l = h k l
-  capped-sums (suc n) m f g h k l =
-      rw (sum-below (sums n f) k, sum-below (sums n g) k) (capped-below (suc k) (sums n f) (sums n g) (λ j i. capped-sums n m f g h j (omega arith)))
-
-  pub capped-stage : (n m : ℕ) (f x y : ℕ → ℕ) → ((k : ℕ) → k < m → min (x k) C ≡ min (sums n f k) C) → ((k : ℕ) → k < m → y k ≡ min (sumBelow (suc k) x) C)
-      → (k : ℕ) → k < m → min (y k) C ≡ min (sums (suc n) f k) C
-  capped-stage n m f x y g h k l =
-      rw (h k l, sum-below (sums n f) k) ((omega arith) ∙ capped-below (suc k) x (sums n f) (λ j i. g j (omega arith)))
-
-  pub capped-large : (a a′ b b′ : ℕ) → min a C ≡ min a′ C → min b C ≡ min b′ C → leb C (a + b) ≡ leb C (a′ + b′)
-  capped-large a a′ b b′ h k = go (leb C (a + b)) refl
-    where
-      go : (t : Bool) → leb C (a + b) ≡ t → t ≡ leb C (a′ + b′)
-      go true e = sym (le-leb C (a′ + b′) (omega (arith, leb-true C (a + b) e)))
-      go false e = sym (lt-leb C (a′ + b′) (omega (arith, leb-false C (a + b) e)))
-
   pub capped-reaches : (a : ℕ) → leb C (min a C) ≡ leb C a
   capped-reaches a = go (leb C a) refl
     where
@@ -166,26 +132,11 @@ module _ (C : ℕ) where
       go true e = le-leb C (min a C) (omega (arith, leb-true C a e))
       go false e = lt-leb C (min a C) (omega (arith, leb-false C a e))
 
-  pub capped-exact : (a a′ b b′ : ℕ) → min a C ≡ min a′ C → min b C ≡ min b′ C → a + b < C → (a ≡ a′) × (b ≡ b′)
-  capped-exact a a′ b b′ h k l = (omega arith, omega arith)
-
 -- products and terms
 
 pub productBelow-ext : (n : ℕ) (f g : ℕ → ℕ) → ((v : ℕ) → v < n → f v ≡ g v) → productBelow n f ≡ productBelow n g
 productBelow-ext zero f g h = refl
 productBelow-ext (suc n) f g h = ap₂ _*_ (h n (omega arith)) (productBelow-ext n f g (λ v l. h v (omega arith)))
-
--- a factor that is not 0 makes no product less
-times-above : (x p : ℕ) → x ≢ 0 → p ≤ x * p
-times-above x p h = rw (mul-comm x p) (le-mul-of-pos-right p (omega arith))
-
-pub productBelow-le : (n k : ℕ) (f : ℕ → ℕ) → ((v : ℕ) → v < n → f v ≢ 0) → k ≤ n → productBelow k f ≤ productBelow n f
-productBelow-le zero k f h l = let e : k ≡ 0 = omega arith in rw e (omega arith)
-productBelow-le (suc n) k f h l = go (eqb k (suc n)) refl (productBelow-le n k f (λ v i. h v (omega arith)))
-  where
-    go : (t : Bool) → eqb k (suc n) ≡ t → (k ≤ n → productBelow k f ≤ productBelow n f) → productBelow k f ≤ productBelow (suc n) f
-    go true e r = rw (eqb-true k (suc n) e) (omega arith)
-    go false e r = le-trans (r (omega (arith, eqb-false k (suc n) e))) (times-above (f n) (productBelow n f) (h n (omega arith)))
 
 -- a term of a sum
 pub sum-term : (f : ℕ → ℕ) (d k : ℕ) → k ≤ d → f k ≤ sum f d
@@ -199,19 +150,6 @@ sum-term f (suc d) k h = go (eqb k (suc d)) refl (sum-term f d k)
 -- sums modulo P
 
 module _ (P : ℕ) where
-  pub mod-below : (n : ℕ) (x f : ℕ → ℕ) → ((k : ℕ) → k < n → x k ≡ f k % P) → sumBelow n x % P ≡ sumBelow n f % P
-  mod-below zero x f h = refl
-  mod-below (suc n) x f h =
-      add-mod (x n) (sumBelow n x) P
-      ∙ ap₂ (λ (a b : ℕ). (a + b) % P) (ap (λ (a : ℕ). a % P) (h n (omega arith)) ∙ mod-mod (f n) P) (mod-below n x f (λ k l. h k (omega arith)))
-      ∙ sym (add-mod (f n) (sumBelow n f) P)
-
-  -- one more stage of sums modulo P is one more fold
-  pub mod-stage : (n m : ℕ) (f x y : ℕ → ℕ) → ((k : ℕ) → k < m → x k ≡ sums n f k % P) → ((k : ℕ) → k < m → y k ≡ sumBelow (suc k) x % P)
-      → (k : ℕ) → k < m → y k ≡ sums (suc n) f k % P
-  mod-stage n m f x y g h k l =
-      h k l ∙ mod-below (suc k) x (sums n f) (λ j i. g j (omega arith)) ∙ sym (ap (λ (a : ℕ). a % P) (sum-below (sums n f) k))
-
   module _ (above : 0 < P) where
     residue-mod : (z : ℤ) → residue P z % P ≡ residue P z
     residue-mod z = mod-eq-of-lt (residue-lt P above z)

@@ -33,9 +33,6 @@ use Rattle.numbers.specs.declared.dimension.DimensionAnswer.{DimensionAn
 use Rattle.numbers.specs.declared.asked.Rooms.{Rooms}
 use Rattle.numbers.specs.declared.asked.Sizes.{Sizes}
 
-or-false : (a b : Bool) → a ≡ false → b ≡ false → (a || b) ≡ false
-or-false a b e f = rw (e, f)
-
 or-true : (a b : Bool) → b ≡ true → (a || b) ≡ true
 or-true true b e = refl
 or-true false b e = e

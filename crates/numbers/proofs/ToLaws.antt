@@ -4,8 +4,8 @@ use mathlib.Core.Logic.{_⊎_, inl, inr}
 use mathlib.Core.Bool.{Bool, true, false, _||_}
 use lib.Dec.{ltb}
 use borrow.Author.Tests.{lt-ltb}
-use mathlib.Core.List.{List, [], _∷_, _++_}
-use Prim.Native.Nat.{ℕ, zero, suc, _+_, _*_, _-_, _%_, _^_, _≤_, _<_}
+use mathlib.Core.List.{List}
+use Prim.Native.Nat.{ℕ, _+_, _*_, _-_, _%_, _^_, _≤_, _<_}
 use native.Mathlib.Omega.{arith}
 use lib.ListN.{length, getD, length-take}
 use native.Mathlib.Nat.{le-of-eq, mul-le-mul, mul-le-mul-right, one-mul, suc-mul, zero-mul}
@@ -20,41 +20,9 @@ use mir.Val.{Fits, SFits, ofZ, toZ}
 use mir.Facts.{toZ-ofZ}
 use Rattle.laws.specs.Word.{wrap}
 use Rattle.laws.proofs.Word.{wrap-add, wrap-sub}
-use Rattle.laws.proofs.Branch.{Summed, summed-keep, summed-skip, summed-less}
+use Rattle.laws.proofs.Branch.{Summed, summed-keep, summed-skip}
 use Rattle.laws.proofs.Pass.{Thinned}
 use Rattle.laws.proofs.Rows.{Wrote, at, row-end}
-use Rattle.laws.proofs.Column.{above, above-yes, above-no, Counted, counted-more, counted-skip}
-use Rattle.numbers.proofs.Steps.{at-same, next-step, later-step}
-
--- Column: monomial i is counted, whose exponent of v is x
-module _ (n m v i count least x : ℕ) (xs : List ℕ) (b : i < m) (h : count ≤ i) (l : least < 65536) (e : x ≡ getD xs (i * n + v) 0) (k : Counted n v xs i count least) (c d : ℕ) where
-  abbrev pub CountedNext : Type 0
-  CountedNext = (i + 1 ≤ m) × (c ≤ i + 1) × (d < 65536) × Counted n v xs (i + 1) c d
-
-  pub column-lesser : 0 < x → x < least → c ≡ count + 1 → d ≡ x → CountedNext
-  column-lesser p q ec ed = rw (ec, ed) (omega arith, next-step count i h, omega arith, counted-more n v i count least x xs (rw e at p) (omega arith) (omega (arith, e)) p k)
-
-  pub column-other : 0 < x → least ≤ x → c ≡ count + 1 → d ≡ least → CountedNext
-  column-other p q ec ed = rw (ec, ed) (omega arith, next-step count i h, l, counted-more n v i count least least xs (rw e at p) (omega arith) (omega (arith, e)) (k .positive) k)
-
-  pub column-none : x ≤ 0 → c ≡ count → d ≡ least → CountedNext
-  column-none p ec ed = rw (ec, ed) (omega arith, later-step count i h, l, counted-skip n v i count least xs (rw e at p) k)
-
--- Column: how many reach e, monomial i counted, whose exponent of v is x
-module _ (n m v e i x count : ℕ) (xs : List ℕ) (b : i < m) (h : count ≤ i) (a : x ≡ getD xs (i * n + v) 0) (k : count ≡ above n v e xs i) (c : ℕ) where
-  abbrev pub AboveNext : Type 0
-  AboveNext = (i + 1 ≤ m) × (c ≤ i + 1) × (c ≡ above n v e xs (i + 1))
-
-  pub above-more : e ≤ x → c ≡ count + 1 → AboveNext
-  above-more q ec = rw ec (omega arith, next-step count i h, omega (arith, above-yes n v e i xs (rw a at q)))
-
-  pub above-same : x < e → c ≡ count → AboveNext
-  above-same q ec = rw ec (omega arith, later-step count i h, k ∙ sym (above-no n v e i xs (rw a at q)))
-
--- Column: an exponent that enough monomials reach, or a greater one
-pub above-raised : (n m v best enough r : ℕ) (xs : List ℕ) → 2 ≤ enough → 0 < best → 2 ≤ above n v best xs m → (r ≡ best) ⊎ ((best < r) × (enough ≤ above n v r xs m)) → (2 ≤ enough) × (0 < r) × (2 ≤ above n v r xs m)
-above-raised n m v best enough r xs g p q (inl e) = (g, rw e p, rw e q)
-above-raised n m v best enough r xs g p q (inr w) = (g, omega (arith, w .0), omega (arith, w .1))
 
 -- Pass: the list of k monomials in ys, of which number i is looked at
 module _ (n m k i : ℕ) (xs ys : List ℕ) (g : m * n ≤ length xs) (t : Thinned n m xs k ys) (b : i < k) where
@@ -119,12 +87,6 @@ module _ (n m v e i k : ℕ) (xs ys : List ℕ) (g : m * n + m * n ≤ length xs
     pub summed-to : m * n + k * n + n ≤ length ys
     summed-to = omega (arith, row-end n m k b, s .len)
 
-    pub summed-to-fits : length xs < 2 ^ 64 → Fits w64 (m * n + k * n)
-    summed-to-fits f = omega (arith, row-end n m k b)
-
-    pub summed-behind-fits : length xs < 2 ^ 64 → Fits w64 (k * n)
-    summed-behind-fits f = omega (arith, row-end n m k b)
-
 -- Word: the machine's sum and difference of signed words, step by step: their bits, the sum of these, and the word that has it
 module _ (a b r : ℤ) (p q s : ℕ) (fa : SFits w64 a) (fb : SFits w64 b) (fr : SFits w64 r) (ep : p ≡ ofZ w64 (toZ w64 (ofZ w64 a))) (eq : q ≡ ofZ w64 (toZ w64 (ofZ w64 b))) (er : r ≡ toZ w64 s) where
   first : p ≡ ofZ w64 a
@@ -151,9 +113,6 @@ either-short k x y z (inr e) h = rw (lt-ltb y k (rw e at h)) (or-true (ltb x k))
 -- Asked: a list within the limits
 pub list-fits : (n s : ℕ) → n ≤ 255 → s ≤ 60 → Fits w64 (s * n)
 list-fits n s h g = omega (arith, mul-le-mul g h)
-
-pub one-list : (n s : ℕ) (xs : List ℕ) → n ≤ 255 → s ≤ 60 → length xs ≡ s * n → Lists n s xs 0 xs
-one-list n s xs h g e = record { first = le-of-eq (sym e); second = rw (zero-mul n) (omega arith); width = omega arith; count = omega arith }
 
 pub two-lists : (n s : ℕ) (xs : List ℕ) (t : ℕ) (ys : List ℕ) → n ≤ 255 → s + t ≤ 60 → length xs ≡ s * n → length ys ≡ t * n → Lists n s xs t ys
 two-lists n s xs t ys h g e f = record { first = le-of-eq (sym e); second = le-of-eq (sym f); width = omega arith; count = omega arith }
@@ -281,9 +240,6 @@ second-there n L h = omega (arith, one-mul n)
 
 pub row-within : (n i z : ℕ) (xs a : List ℕ) → a ≡ at n i xs → n ≤ z → length a ≤ z
 row-within n i z xs a e h = rw (e, length-take) (omega arith)
-
-pub rows-alike : (n : ℕ) (xs a b : List ℕ) → n + n ≤ length xs → a ≡ at n 0 xs → b ≡ at n 1 xs → length a ≡ length b
-rows-alike n xs a b h e f = at-same n 2 0 1 xs a b (omega arith) (omega arith) (omega arith) e f
 
 -- Few: a shift, and a degree more
 pub shift-small : (s : ℕ) → s < 2305843009213693952 → s < 4611686018427387904

@@ -20,7 +20,7 @@ ghost use lib.ListN.{length, replicate};
 ghost use Rattle.laws.specs.Dimension.{degreeBound, dimension as dimensionOf};
 ghost use Rattle.laws.specs.Ideal.{listed};
 ghost use Rattle.laws.specs.Room.{cellsAsked, coefficientsAsked, dimensionWords};
-ghost use Rattle.monomials.specs.Refusal.{refusal as refusalOf, after};
+ghost use Rattle.monomials.specs.Refusal.{after};
 ghost use Rattle.numbers.specs.Dimension.{dimensionAnswer, dimensionRoom, dimensionFirst, dimensionSecond, dimensionSums, dimensionIs};
 ghost use Rattle.numbers.specs.DimensionParts.{Cells, Bounded, Lent, listAnswer, roomRefusal};
 ghost use Rattle.numbers.specs.Numerator.{wiped};
