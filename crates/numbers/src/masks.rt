@@ -95,11 +95,14 @@ fn dividing(room: &[u16], n: usize, s: usize) -> u64
     bits
 }
 
-// The list without the monomials that another one divides; how many are left.
+// The list without the monomials that another one divides; how many are left. Six are sooner counted than compared, and stay as they are.
 pub(crate) fn starting_list(room: &mut [u16], n: usize, s: usize) -> usize
     requires { ⌜ (s * n ≤ length (now room)) × (s ≤ 60) × (n ≤ 255) ⌝ }
     ensures { λ r. ⌜ Thinned n s (now (room .entry)) r (now (room .exit)) ⌝ }
 {
+    if s <= 6 {
+        return s;
+    }
     let having = dividing(room, n, s);
     minimalize(room, n, s, having)
 }
