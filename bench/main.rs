@@ -25,7 +25,7 @@ mod workloads;
 
 use list::List;
 use plot::Line;
-use prepared::{Call, Prepared, Update, DIMENSION, HOST, NUMERATOR};
+use prepared::{Call, Prepared, Rooms, Update, DIMENSION, HOST, NUMERATOR};
 use random::Random;
 use table::{Table, LIMIT_SECONDS};
 use workloads::Asked;
@@ -38,16 +38,19 @@ const SMALL: usize = 500;
 /// Seconds that picus has for a point of the plot.
 const POINT_SECONDS: i64 = 5;
 
-fn both(p: &mut Prepared, call: Call, seconds: i64) -> (f64, Option<f64>) {
-    let ours = clock::median(|| (call.ours)(p));
-    let shared = std::cell::RefCell::new(p);
-    let rust = table::rust(seconds, || (call.rust)(&shared.borrow()), || (call.same)(&mut shared.borrow_mut()));
-    (ours, rust)
+fn our_time(p: &Prepared, call: Call) -> f64 {
+    let mut rooms = p.rooms();
+    clock::median(|| (call.ours)(p, &mut rooms))
+}
+
+fn both(p: &Prepared, call: Call, seconds: i64) -> (f64, Option<f64>) {
+    let rust = table::rust(seconds, || (call.rust)(p), || (call.same)(p, &mut p.rooms()));
+    (our_time(p, call), rust)
 }
 
 fn row(table: &mut Table, name: &str, list: List, call: Call, asked: Asked) {
-    let mut p = Prepared::of(list);
-    let (ours, rust) = both(&mut p, call, LIMIT_SECONDS);
+    let p = Prepared::of(list);
+    let (ours, rust) = both(&p, call, LIMIT_SECONDS);
     table.row(name, p.list.n, p.list.s, ours, rust, asked);
 }
 
@@ -66,9 +69,10 @@ fn small_lists(kind: Kind, seed: u64, s: usize) -> Vec<Prepared> {
 /// A row for each count from 3 to 10, the time a list.
 fn small_rows(table: &mut Table, name: &str, kind: Kind, seed: u64, call: Call, asked: Asked) {
     for s in 3..=10 {
-        let mut all = small_lists(kind, seed, s);
-        assert!(all.iter_mut().all(call.same), "the Rust has another answer");
-        let ours = clock::median(|| all.iter_mut().for_each(call.ours)) / SMALL as f64;
+        let all = small_lists(kind, seed, s);
+        let mut rooms = Rooms::of_all(&all);
+        assert!(all.iter().all(|p| (call.same)(p, &mut rooms)), "the Rust has another answer");
+        let ours = clock::median(|| all.iter().for_each(|p| (call.ours)(p, &mut rooms))) / SMALL as f64;
         let rust = clock::median(|| all.iter().for_each(call.rust)) / SMALL as f64;
         let n = all.iter().map(|p| p.list.n).max().unwrap_or(0);
         table.row(name, n, s, ours, Some(rust), asked);
@@ -130,15 +134,13 @@ fn middle(mut times: Vec<f64>) -> f64 {
 fn point(kind: Kind, s: usize, with_rust: bool) -> (f64, Option<f64>) {
     let (mut ours, mut rust) = (Vec::new(), Vec::new());
     for k in 0..3 {
-        let mut p = Prepared::of(kind(&mut Random::of(2000 + k), s));
-        let seconds = if with_rust && rust.len() == ours.len() { POINT_SECONDS } else { 0 };
-        if seconds > 0 {
-            let (our_time, rust_time) = both(&mut p, NUMERATOR, seconds);
-            ours.push(our_time);
-            rust.extend(rust_time);
-        } else {
-            ours.push(clock::median(|| (NUMERATOR.ours)(&mut p)));
-        }
+        let p = Prepared::of(kind(&mut Random::of(2000 + k), s));
+        let (our_time, rust_time) = match with_rust && rust.len() == ours.len() {
+            true => both(&p, NUMERATOR, POINT_SECONDS),
+            false => (our_time(&p, NUMERATOR), None),
+        };
+        ours.push(our_time);
+        rust.extend(rust_time);
     }
     let rust = (rust.len() == 3).then(|| middle(rust));
     (middle(ours), rust)
@@ -174,11 +176,9 @@ fn lists(random_ones: usize) {
     let mut random = Random::of(3000);
     all.extend((0..random_ones).map(|k| (format!("r{k}"), workloads::any(&mut random))));
     for (name, list) in all {
-        let mut p = Prepared::of(list);
-        let time = clock::median(|| {
-            p.numerator();
-        });
-        let answer = p.numerator().to_vec();
+        let p = Prepared::of(list);
+        let time = our_time(&p, NUMERATOR);
+        let answer = p.numerator(&mut p.rooms()).to_vec();
         let text = |values: Vec<String>| values.join(" ");
         let cells = text(p.list.cells.iter().map(u16::to_string).collect());
         let coefficients = text(answer.iter().map(i64::to_string).collect());
@@ -187,26 +187,23 @@ fn lists(random_ones: usize) {
 }
 
 fn once(kind: &str, k: usize) {
+    let each = |kind: Kind, seed: u64, call: Call| {
+        let all = small_lists(kind, seed, k);
+        let mut rooms = Rooms::of_all(&all);
+        assert!(all.iter().all(|p| (call.same)(p, &mut rooms)));
+    };
     match kind {
-        "small" => small_lists(workloads::small, 700, k).iter_mut().for_each(|p| {
-            assert_eq!(p.numerator().to_vec(), p.rust_numerator().coeffs());
-        }),
-        "edges" => small_lists(workloads::edges, 730, k).iter_mut().for_each(|p| {
-            assert_eq!(p.numerator().to_vec(), p.rust_numerator().coeffs());
-        }),
-        "wide" => small_lists(workloads::wide, 750, k).iter_mut().for_each(|p| {
-            assert_eq!(p.numerator().to_vec(), p.rust_numerator().coeffs());
-        }),
-        "squares" => small_lists(workloads::small_artinian, 800, k).iter_mut().for_each(|p| {
-            assert_eq!(Some(p.dimension()), p.rust_dimension());
-        }),
+        "small" => each(workloads::small, 700, NUMERATOR),
+        "edges" => each(workloads::edges, 730, NUMERATOR),
+        "wide" => each(workloads::wide, 750, NUMERATOR),
+        "squares" => each(workloads::small_artinian, 800, DIMENSION),
         "update" => {
             let mut u = Update::of(workloads::updates().swap_remove(k).1);
             assert_eq!(u.update().to_vec(), u.rust_update().coeffs());
         }
         _ => {
-            let mut p = Prepared::of(workloads::numerators().swap_remove(k).list);
-            assert_eq!(p.numerator().to_vec(), p.rust_numerator().coeffs());
+            let p = Prepared::of(workloads::numerators().swap_remove(k).list);
+            assert!((NUMERATOR.same)(&p, &mut p.rooms()));
         }
     }
 }

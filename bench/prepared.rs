@@ -1,4 +1,4 @@
-//! A list with its rooms, and as picus takes it. Rooms are lent as the last call left them; every call clears its own.
+//! A list as ours and as picus takes it, and the rooms. They are lent as the last call left them; every call clears its own part.
 
 use crate::bridge::{self, Lent, Values};
 use crate::list::List;
@@ -6,7 +6,7 @@ use picus::hilbert::{hilbert_numerator, quotient_dimension, HilbertNum};
 use picus::monomial::Monomial;
 use std::hint::black_box;
 
-struct Rooms {
+pub struct Rooms {
     room: Vec<u16>,
     first: Vec<i64>,
     second: Vec<i64>,
@@ -14,6 +14,7 @@ struct Rooms {
 }
 
 impl Rooms {
+    /// Rooms for a list, and for a given numerator of so many coefficients.
     fn of(list: &List, given: usize) -> Self {
         let asked = list.asked();
         let coefficients = asked.coefficients.max(given);
@@ -25,6 +26,19 @@ impl Rooms {
         }
     }
 
+    /// Rooms for each of the lists, one after another, as a solver keeps them.
+    pub fn of_all(all: &[Prepared]) -> Self {
+        let mut rooms = Rooms { room: vec![], first: vec![], second: vec![], sums: vec![] };
+        for p in all {
+            let own = Rooms::of(&p.list, 0);
+            rooms.room.resize(rooms.room.len().max(own.room.len()), 7);
+            rooms.first.resize(rooms.first.len().max(own.first.len()), 7);
+            rooms.second.resize(rooms.second.len().max(own.second.len()), 7);
+            rooms.sums.resize(rooms.sums.len().max(own.sums.len()), 7);
+        }
+        rooms
+    }
+
     fn lent(&mut self) -> Lent<'_> {
         Lent { room: &mut self.room, first: &mut self.first, second: &mut self.second, sums: &mut self.sums }
     }
@@ -32,7 +46,6 @@ impl Rooms {
 
 pub struct Prepared {
     pub list: List,
-    rooms: Rooms,
     record: Vec<u8>,
     picus: Vec<Monomial>,
 }
@@ -47,30 +60,35 @@ fn record(list: &List) -> Vec<u8> {
 
 impl Prepared {
     pub fn of(list: List) -> Self {
-        Prepared { rooms: Rooms::of(&list, 0), record: record(&list), picus: list.picus(), list }
+        Prepared { record: record(&list), picus: list.picus(), list }
+    }
+
+    /// Rooms for this list alone.
+    pub fn rooms(&self) -> Rooms {
+        Rooms::of(&self.list, 0)
     }
 
     #[inline(never)]
-    pub fn numerator(&mut self) -> &[i64] {
+    pub fn numerator<'a>(&self, rooms: &'a mut Rooms) -> &'a [i64] {
         let mut values: Values = [0; 4];
         let list = black_box(&self.list);
-        let number = bridge::numerator(list.n as u64, list.s as u64, &list.cells, &mut self.rooms.lent(), &mut values);
+        let number = bridge::numerator(list.n as u64, list.s as u64, &list.cells, &mut rooms.lent(), &mut values);
         assert_eq!(number, 0);
-        &self.rooms.first[..values[0] as usize]
+        &rooms.first[..values[0] as usize]
     }
 
     #[inline(never)]
-    pub fn dimension(&mut self) -> u128 {
+    pub fn dimension(&self, rooms: &mut Rooms) -> u128 {
         let mut values: Values = [0; 4];
         let list = black_box(&self.list);
-        let number = bridge::dimension(list.n as u64, list.s as u64, &list.cells, &mut self.rooms.lent(), &mut values);
+        let number = bridge::dimension(list.n as u64, list.s as u64, &list.cells, &mut rooms.lent(), &mut values);
         assert_eq!(number, 0);
         (values[1] as u128) << 64 | values[0] as u128
     }
 
     /// The dimension by the host call, which has rooms of its own.
     #[inline(never)]
-    pub fn host(&mut self) -> u128 {
+    pub fn host(&self) -> u128 {
         let mut out = [0; 26];
         assert_eq!(bridge::host(black_box(&self.record), &mut out), 0);
         u128::from_be_bytes(out[6..22].try_into().expect("sixteen bytes"))
@@ -90,31 +108,31 @@ impl Prepared {
 /// A call by ours and by picus, and whether they have one answer.
 #[derive(Clone, Copy)]
 pub struct Call {
-    pub ours: fn(&mut Prepared),
+    pub ours: fn(&Prepared, &mut Rooms),
     pub rust: fn(&Prepared),
-    pub same: fn(&mut Prepared) -> bool,
+    pub same: fn(&Prepared, &mut Rooms) -> bool,
 }
 
 #[rustfmt::skip]
 pub const NUMERATOR: Call = Call {
-    ours: |p| { p.numerator(); },
+    ours: |p, rooms| { p.numerator(rooms); },
     rust: |p| { p.rust_numerator(); },
-    same: |p| p.rust_numerator().coeffs() == p.numerator(),
+    same: |p, rooms| p.rust_numerator().coeffs() == p.numerator(rooms),
 };
 
 #[rustfmt::skip]
 pub const DIMENSION: Call = Call {
-    ours: |p| { p.dimension(); },
+    ours: |p, rooms| { p.dimension(rooms); },
     rust: |p| { p.rust_dimension(); },
-    same: |p| p.rust_dimension() == Some(p.dimension()),
+    same: |p, rooms| p.rust_dimension() == Some(p.dimension(rooms)),
 };
 
 /// picus has no such call: beside it stands its dimension of a list that is ready, without reading a record.
 #[rustfmt::skip]
 pub const HOST: Call = Call {
-    ours: |p| { p.host(); },
+    ours: |p, _| { p.host(); },
     rust: |p| { p.rust_dimension(); },
-    same: |p| p.rust_dimension() == Some(p.host()),
+    same: |p, _| p.rust_dimension() == Some(p.host()),
 };
 
 /// The last monomial of a list added to the others, whose numerator is given.
@@ -132,7 +150,7 @@ pub struct Update {
 impl Update {
     pub fn of(list: List) -> Self {
         let (old, new) = list.parted(list.s - 1);
-        let given = Prepared::of(old.clone()).numerator().to_vec();
+        let given = Prepared::of(old.clone()).numerator(&mut Rooms::of(&old, 0)).to_vec();
         let rooms = Rooms::of(&list, given.len());
         let (rust_given, rust_old, rust_new) = (HilbertNum::of(given.clone()), old.picus(), new.picus());
         Update { list, old, new, given, rooms, rust_given, rust_old, rust_new }

@@ -116,7 +116,7 @@ pub fn circuit(random: &mut Random) -> List {
 
 /// Width up to 255, few variables used.
 pub fn wide(random: &mut Random) -> List {
-    let n = random.one_of(&[60, 127, 128, 129, 254, 255]);
+    let n = random.one_of(&[32, 33, 60, 127, 128, 129, 254, 255]);
     let used = random.sample(n, 5);
     let s = random.from(1, 8);
     List::of(n, &(0..s).map(|_| spread(n, &used, &monomial(random, 5, 3, 5))).collect::<Vec<_>>())

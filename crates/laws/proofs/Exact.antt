@@ -72,25 +72,14 @@ exact L f z out h e o a = first-is (length z) (numeratorAt L) out (a .len) one
         low-exact (coefficient out k) (numeratorAt L k) (a .words (zeros-words z o) k) (small-fits (numeratorAt L k) (omega (arith, numerator-small L k h)))
         (a .sums k l ∙ ap low (ap₂ _+ℤ_ (o k) (e k) ∙ +ℤ-idl (numeratorAt L k)))
 
--- the whole call: the list copied to the front of the room, thinned, its numerator added to zeros of the asked size
-pub settled : (n s m : ℕ) (cells room copied thinned : List ℕ) (z out : List ℤ) → s ≤ 60 → length cells ≡ s * n → s * n ≤ length room
-    → Wrote room (λ j. getD cells j 0) 0 (length cells) copied → Thinned n s copied m thinned → Zeros z → length z ≡ coefficientsAsked (listed n s cells)
-    → AddedTo (shift 0 (seeded (coefficient (pos 1 ∷ [])) [] (rows n m thinned))) z out → out ≡ first (coefficientsAsked (listed n s cells)) (numeratorAt (listed n s cells))
-settled n s m cells room copied thinned z out h l r w t o e a =
-    exact (listed n s cells) (seeded (coefficient (pos 1 ∷ [])) [] (rows n m thinned)) z out (omega (arith, listed-count n s cells))
-    (seeded-listed n m thinned (listed n s cells) (listed-within n s cells) same) o a
+-- the whole call: a list with this numerator in the room, thinned, its numerator added to zeros of the asked size
+pub settled : (n s w m : ℕ) (cells copied thinned : List ℕ) (z out : List ℤ) → s ≤ 60 → ((k : ℕ) → numeratorAt (rows w s copied) k ≡ numeratorAt (listed n s cells) k) → Thinned w s copied m thinned
+    → Zeros z → length z ≡ coefficientsAsked (listed n s cells)
+    → AddedTo (shift 0 (seeded (coefficient (pos 1 ∷ [])) [] (rows w m thinned))) z out → out ≡ first (coefficientsAsked (listed n s cells)) (numeratorAt (listed n s cells))
+settled n s w m cells copied thinned z out h r t o e a =
+    exact (listed n s cells) (seeded (coefficient (pos 1 ∷ [])) [] (rows w m thinned)) z out (omega (arith, listed-count n s cells))
+    (λ k. seeded-listed w m thinned (rows w s copied) (rows-within w s copied) (t .same) k ∙ r k) o a
     ∙ ap (λ (k : ℕ). first k (numeratorAt (listed n s cells))) e
-  where
-    there : (j : ℕ) → j < s * n → getD copied j 0 ≡ getD cells j 0
-    there j g =
-        let f : j ≡ 0 + j = omega arith in
-        ap (λ (k : ℕ). getD copied k 0) f ∙ w .there j (omega arith)
-
-    same : (u : List ℕ) → multiple (rows n m thinned) u ≡ multiple (listed n s cells) u
-    same u =
-        t .same u
-        ∙ ap (λ (L : List (List ℕ)). multiple L u) (rows-ext n s copied cells (omega (arith, w .len)) (omega arith) there)
-        ∙ rows-same n s cells u
 
 -- what lies there then: the numerator with zeros behind it, and its length
 pub settled-length : (L : List (List ℕ)) (out : List ℤ) (r : ℕ) → out ≡ first (coefficientsAsked L) (numeratorAt L) → r ≡ length (trim out) → r ≡ length (numerator L)

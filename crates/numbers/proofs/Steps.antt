@@ -114,6 +114,10 @@ none-below i h = omega arith
 pub place-bytes : (i L : ℕ) → i < L → L * 2 < 2 ^ 63 → Fits w64 (i * 2)
 place-bytes i L h f = omega arith
 
+-- the same in a list of words
+pub place-words : (i L : ℕ) → i < L → L * 8 < 2 ^ 63 → Fits w64 (i * 8)
+place-words i L h f = omega arith
+
 -- two monomials, the first before the second
 pub pair-first : (n i j L : ℕ) → i < j → (j + 1) * n ≤ L → i * n ≤ L
 pair-first n i j L h g = omega (arith, row-end n j i h, row-end n (j + 1) j (next-above j))

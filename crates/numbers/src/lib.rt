@@ -10,6 +10,7 @@ mod hints;
 mod leaf;
 mod masks;
 mod minimal;
+mod narrow;
 pub mod numerator;
 mod parts;
 mod pivot;

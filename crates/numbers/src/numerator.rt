@@ -5,7 +5,7 @@ use crate::coefficients::trimmed_length;
 use crate::engine::add_numerator;
 use crate::leaf::zero;
 use crate::masks::starting_list;
-use crate::rows::put_cells;
+use crate::narrow::put_list;
 use crate::rows::wipe;
 use monomials::refusal::MAX_COUNT;
 use monomials::refusal::MAX_WIDTH;
@@ -101,12 +101,12 @@ pub(crate) fn numerator_in(
     ensures { λ r. ⌜ now (first .exit) ≡ numerator (listed n s (now (cells .entry))) ++ replicate (length (now (first .entry)) - length (numerator (listed n s (now (cells .entry))))) (pos 0) ⌝ }
     ensures { λ r. ⌜ now (second .exit) ≡ replicate (length (now (second .entry))) (pos 0) ⌝ }
 {
-    put_cells(room, 0, cells);
-    let m = starting_list(room, n, s);
+    let w = put_list(room, n, s, cells);
+    let m = starting_list(room, w, s);
     zero(first);
     zero(second);
     let one = [1i64; 1];
-    add_numerator(room, n, m, 0, &one, 0, first, second);
+    add_numerator(room, w, m, 0, &one, 0, first, second);
     wipe(room);
     trimmed_length(first)
 }
