@@ -108,18 +108,14 @@ fn suggested(s: &mut [u64], room: &[u16], n: usize, m: usize, len: usize) -> Hin
     requires { ⌜ (m * n ≤ length (now room)) × (length (now s) ≤ n) ⌝ }
 {
     let all = marks(s, room, n, m);
-    let mut h = most(s, m);
-    h.part = part(s, h.having, all);
-    if h.part != 0 {
-        h.few = false;
+    let h = most(s, m);
+    let part = part(s, h.having, all);
+    Hint {
+        few: h.few & (part == 0) & (len <= 4) & (m <= 14),
+        part: part,
+        v: h.v,
+        having: h.having,
     }
-    if len > 4 {
-        h.few = false;
-    }
-    if m > 14 {
-        h.few = false;
-    }
-    h
 }
 
 // What one pass over m monomials suggests, for a seed of so many coefficients; for at most 32 variables fewer words are cleared.

@@ -64,10 +64,8 @@ fn may_divide(masks: &[[u64; 2]; 60], s: usize, k: usize) -> bool
     while i < s {
         if i != k {
             let b = masks[i];
-            if a[0] & !b[0] == 0 {
-                if a[1] & !b[1] == 0 {
-                    return true;
-                }
+            if (a[0] & !b[0]) | (a[1] & !b[1]) == 0 {
+                return true;
             }
         }
         i += 1;
