@@ -62,8 +62,7 @@ pub extern "C" fn purlthicket_dim(rec: &[u8], out: &mut [u8]) -> u8
     }
 }
 
-// The dimension of what the record lists, or what is refused. The cells that every record finds room in take long to clear, so a short record has
-// fewer.
+// The dimension of what the record lists, or what is refused; a short record has fewer cells, as in `is_record`.
 fn dimension_of(rec: &[u8]) -> DimensionAnswer
     ensures { λ r. do ⌜ r ≡ recordAnswer (← ⟦MAX_WIDTH⟧ .entry) (← ⟦MAX_COUNT⟧ .entry) (← ⟦MAX_DEGREE⟧ .entry) (now (rec .entry)) ⌝ }
 {

@@ -9,6 +9,7 @@ use crate::rows::rows_stand;
 use monomials::refusal::MAX_COUNT;
 use monomials::refusal::MAX_WIDTH;
 use monomials::refusal::Refusal;
+ghost use mathlib.Core.Bool.{true};
 ghost use mathlib.Core.Path.{_≡_};
 ghost use mathlib.Core.List.{[], _∷_, _++_};
 ghost use Prim.Native.Nat.{_+_, _*_, _≤_, _<_};
@@ -159,18 +160,31 @@ fn copy_refused(refusal: Refusal) -> CopyAnswer
     }
 }
 
-// Whether the bytes are a record of at most MAX_COUNT monomials.
+// Whether the bytes are a record of at most MAX_COUNT monomials. The cells that every record finds room in take long to clear, so a short one
+// has fewer.
 pub(crate) fn is_record(rec: &[u8]) -> bool
     ensures { λ r. do ⌜ r ≡ isRecord (← ⟦MAX_COUNT⟧ .entry) (now (rec .entry)) ⌝ }
 {
     if !header_stands(rec) {
         return false;
     }
+    if rec.len() <= 519 {
+        let mut few = [0u16; 256];
+        return list_stands(rec, &mut few);
+    }
+    let mut cells = [0u16; MAX_CELLS];
+    list_stands(rec, &mut cells)
+}
+
+// The same for bytes whose header stands, the exponents copied into `cells`.
+fn list_stands(rec: &[u8], cells: &mut [u16]) -> bool
+    requires { ⌜ (headerStands 60 (now rec) ≡ true) × (length (now rec) ≤ 2 * length (now cells) + 7) ⌝ }
+    ensures { λ r. ⌜ r ≡ isRecord 60 (now (rec .entry)) ⌝ }
+{
     let n = wide(rec[5]);
     let m = wide(rec[6]);
     let count = m * n;
-    let mut cells = [0u16; MAX_CELLS];
-    copy_cells(rec, count, &mut cells);
+    copy_cells(rec, count, cells);
     rows_stand(n, m, &cells[0..count])
 }
 

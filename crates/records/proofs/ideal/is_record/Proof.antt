@@ -1,12 +1,11 @@
--- `is_record` meets its contract: the header stands, and so does the list in the cells. Rests on `record-stands`.
+-- `is_record` meets its contract: the header stands, and so does the list. A header that stands tells at most 15,300 exponents.
 use native.Mathlib.Omega.{arith}
 use mathlib.Core.Path.{sym, _∙_}
-use Prim.Native.Nat.{_*_}
-use lib.ListN.{drop, replicate}
 use borrow.Author.Tests.{not-true, not-false}
 use Rattle.laws.proofs.Reading.{bytes-by}
+use Rattle.laws.specs.Record.{countIn, widthIn}
 use Rattle.records.proofs.Cells.{area}
-use Rattle.records.proofs.Standing.{record-header-falls, record-list-stands, header-few, header-total, copied}
+use Rattle.records.proofs.Standing.{record-header-falls, header-few, header-total}
 use borrow.Author.Needs.{needs}
 use Rattle.records.proofs.ideal.is_record.Statement.{statement}
 use Rattle.records.proofs.ideal.is_record.Tie as tie
@@ -17,22 +16,12 @@ is-record-spec =
     (tie.spec
     (λ c κs. search needs)
     -- returns
-    (λ c. let rec = c .before .before .before .args .rec .now in record-header-falls 60 rec (bytes-by rec (λ i l. omega (arith, c .before .before .shared-slice-known .given i))) (sym (c .before .header-stands .ensures) ∙ not-true (c .before .header-stands .result) (c .if1 .taken)))
-    -- shared-slice-read-wide
-    (λ c. let rec = c .before .before .before .before .args .rec .now in let h = sym (c .before .before .header-stands .ensures) ∙ not-false (c .before .before .header-stands .result) (c .before .if1 .left) in omega (arith, header-total 60 rec h))
-    (λ c κs. search needs)
-    -- shared-slice-read-wide-2
-    (λ c. let rec = c .before .before .before .before .before .before .args .rec .now in let h = sym (c .before .before .before .before .header-stands .ensures) ∙ not-false (c .before .before .before .before .header-stands .result) (c .before .before .before .if1 .left) in omega (arith, header-total 60 rec h))
-    (λ c κs. search needs)
-    -- mul-count
-    (λ c. let rec = c .before .before .before .before .before .before .before .args .rec .now in let h = sym (c .before .before .before .before .before .header-stands .ensures) ∙ not-false (c .before .before .before .before .before .header-stands .result) (c .before .before .before .before .if1 .left) in omega (arith, area (c .wide2 .result) (c .before .before .wide .result) (rw (c .wide2 .ensures .0) (header-few 60 rec h)) (omega arith)))
+    (λ c. let p1 = c .before in let p2 = p1 .before in let rec = p2 .before .args .rec .now in record-header-falls 60 rec (bytes-by rec (λ i l. omega (arith, p2 .shared-slice-known .given i))) (sym (p1 .header-stands .ensures) ∙ not-true (p1 .header-stands .result) (c .if1 .taken)))
     (λ c. search needs)
-    -- copy-cells-requires
-    (λ c κs. let rec = c .before .before .before .before .before .before .before .before .args .rec .now in let h = sym (c .before .before .before .before .before .before .header-stands .ensures) ∙ not-false (c .before .before .before .before .before .before .header-stands .result) (c .before .before .before .before .before .if1 .left) in (rw (c .before .wide2 .ensures .0, c .before .before .before .wide .ensures .0) (header-total 60 rec h), area (c .before .wide2 .result) (c .before .before .before .wide .result) (rw (c .before .wide2 .ensures .0) (header-few 60 rec h)) (omega arith)))
+    -- list-stands-requires
+    (λ c κs. let p1 = c .before in let p2 = p1 .before in let p3 = p2 .before in (sym (p3 .header-stands .ensures) ∙ not-false (p3 .header-stands .result) (p2 .if1 .left), p1 .if2 .taken))
     (λ c. search needs)
     (λ c. search needs)
-    -- part-rows-stand-end
-    (λ c. let rec = c .before .before .before .before .before .before .before .before .before .before .before .args .rec .now in let h = sym (c .before .before .before .before .before .before .before .before .before .header-stands .ensures) ∙ not-false (c .before .before .before .before .before .before .before .before .before .header-stands .result) (c .before .before .before .before .before .before .before .before .if1 .left) in omega (arith, c .before .before .copy-cells .kept .1 .1 .0, area (c .before .before .before .before .wide2 .result) (c .before .before .before .before .before .before .wide .result) (rw (c .before .before .before .before .wide2 .ensures .0) (header-few 60 rec h)) (omega arith)))
-    (λ c κs. search needs)
-    -- returns-2
-    (λ c. let rec = c .before .before .before .before .before .before .before .before .before .before .before .before .before .args .rec .now in let h = sym (c .before .before .before .before .before .before .before .before .before .before .before .header-stands .ensures) ∙ not-false (c .before .before .before .before .before .before .before .before .before .before .before .header-stands .result) (c .before .before .before .before .before .before .before .before .before .before .if1 .left) in let count = c .before .before .before .before .before .before .wide2 .result * c .before .before .before .before .before .before .before .before .wide .result in c .rows-stand .ensures ∙ rw (copied count rec (drop count (replicate 15300 0)) (c .before .before .before .before .copy-cells .last .1 .1 .0) (rw (c .before .before .before .before .before .before .wide2 .ensures .0, c .before .before .before .before .before .before .before .before .wide .ensures .0) (header-total 60 rec h)) (c .before .before .before .before .copy-cells .ensures), c .before .before .before .before .before .before .wide2 .ensures .0, c .before .before .before .before .before .before .before .before .wide .ensures .0) (record-list-stands 60 rec (bytes-by rec (λ i l. omega (arith, c .before .before .before .before .before .before .before .before .before .before .before .before .shared-slice-known .given i))) h)))
+    -- list-stands-requires-2
+    (λ c κs. let p2 = c .before .before in let p3 = p2 .before in let p4 = p3 .before in let rec = p4 .before .args .rec .now in let h = sym (p3 .header-stands .ensures) ∙ not-false (p3 .header-stands .result) (p2 .if1 .left) in (h, omega (arith, header-total 60 rec h, area (countIn rec) (widthIn rec) (header-few 60 rec h) (omega (arith, p4 .shared-slice-known .given 5)))))
+    (λ c. search needs))
