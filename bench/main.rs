@@ -44,8 +44,8 @@ fn our_time(p: &Prepared, call: Call) -> f64 {
 }
 
 fn both(p: &Prepared, call: Call, seconds: i64) -> (f64, Option<f64>) {
-    let rust = table::rust(seconds, || (call.rust)(p), || (call.same)(p, &mut p.rooms()));
-    (our_time(p, call), rust)
+    let mut rooms = p.rooms();
+    table::both(seconds, || (call.ours)(p, &mut rooms), || (call.rust)(p), || (call.same)(p, &mut p.rooms()))
 }
 
 fn row(table: &mut Table, name: &str, list: List, call: Call, asked: Asked) {
@@ -72,10 +72,10 @@ fn small_rows(table: &mut Table, name: &str, kind: Kind, seed: u64, call: Call, 
         let all = small_lists(kind, seed, s);
         let mut rooms = Rooms::of_all(&all);
         assert!(all.iter().all(|p| (call.same)(p, &mut rooms)), "the Rust has another answer");
-        let ours = clock::median(|| all.iter().for_each(|p| (call.ours)(p, &mut rooms))) / SMALL as f64;
-        let rust = clock::median(|| all.iter().for_each(call.rust)) / SMALL as f64;
+        let ours = || all.iter().for_each(|p| (call.ours)(p, &mut rooms));
+        let (ours, rust) = clock::in_turn(ours, || all.iter().for_each(call.rust));
         let n = all.iter().map(|p| p.list.n).max().unwrap_or(0);
-        table.row(name, n, s, ours, Some(rust), asked);
+        table.row(name, n, s, ours / SMALL as f64, Some(rust / SMALL as f64), asked);
     }
 }
 
@@ -109,18 +109,15 @@ fn host(table: &mut Table) {
 fn updates(table: &mut Table) {
     table.head("update");
     for (name, list) in workloads::updates() {
-        let mut u = Update::of(list);
-        let ours = clock::median(|| {
-            u.update();
-        });
-        let answer = u.update().to_vec();
-        let rust = table::rust(
-            LIMIT_SECONDS,
-            || {
-                u.rust_update();
-            },
-            || u.rust_update().coeffs() == answer,
-        );
+        let u = Update::of(list);
+        let mut rooms = u.rooms();
+        let ours = || {
+            u.update(&mut rooms);
+        };
+        let rust = || {
+            u.rust_update();
+        };
+        let (ours, rust) = table::both(LIMIT_SECONDS, ours, rust, || u.is_same());
         table.row(&name, u.list.n, u.list.s, ours, rust, Asked::Times(1.0));
     }
 }
@@ -197,9 +194,9 @@ fn once(kind: &str, k: usize) {
         "edges" => each(workloads::edges, 730, NUMERATOR),
         "wide" => each(workloads::wide, 750, NUMERATOR),
         "squares" => each(workloads::small_artinian, 800, DIMENSION),
+        "host" => each(workloads::small_artinian, 800, HOST),
         "update" => {
-            let mut u = Update::of(workloads::updates().swap_remove(k).1);
-            assert_eq!(u.update().to_vec(), u.rust_update().coeffs());
+            assert!(Update::of(workloads::updates().swap_remove(k).1).is_same());
         }
         _ => {
             let p = Prepared::of(workloads::numerators().swap_remove(k).list);

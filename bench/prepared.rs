@@ -103,6 +103,19 @@ impl Prepared {
     pub fn rust_dimension(&self) -> Option<u128> {
         quotient_dimension(black_box(&self.picus), self.list.n)
     }
+
+    /// The host call's work by a Rust host, which picus leaves to it: the monomials from the record's bytes, the dimension, and its bytes. It
+    /// trusts the record, and has no top degree.
+    #[inline(never)]
+    pub fn rust_host(&self) -> u128 {
+        let record = black_box(&self.record);
+        let n = usize::from(record[5]);
+        let exponents = |row: &[u8]| row.chunks(2).map(|x| u16::from_be_bytes([x[0], x[1]])).collect();
+        let list: Vec<Monomial> = record[7..].chunks(2 * n).map(|row| Monomial::from_exponents(exponents(row))).collect();
+        let mut out = [0; 26];
+        out[6..22].copy_from_slice(&quotient_dimension(&list, n).expect("a dimension").to_be_bytes());
+        u128::from_be_bytes(black_box(&out)[6..22].try_into().expect("sixteen bytes"))
+    }
 }
 
 /// A call by ours and by picus, and whether they have one answer.
@@ -127,12 +140,12 @@ pub const DIMENSION: Call = Call {
     same: |p, rooms| p.rust_dimension() == Some(p.dimension(rooms)),
 };
 
-/// picus has no such call: beside it stands its dimension of a list that is ready, without reading a record.
+/// picus has no such call: beside it stands what a Rust host does around its dimension.
 #[rustfmt::skip]
 pub const HOST: Call = Call {
     ours: |p, _| { p.host(); },
-    rust: |p| { p.rust_dimension(); },
-    same: |p, _| p.rust_dimension() == Some(p.host()),
+    rust: |p| { p.rust_host(); },
+    same: |p, _| p.rust_host() == p.host(),
 };
 
 /// The last monomial of a list added to the others, whose numerator is given.
@@ -141,7 +154,6 @@ pub struct Update {
     old: List,
     new: List,
     given: Vec<i64>,
-    rooms: Rooms,
     rust_given: HilbertNum,
     rust_old: Vec<Monomial>,
     rust_new: Vec<Monomial>,
@@ -151,16 +163,18 @@ impl Update {
     pub fn of(list: List) -> Self {
         let (old, new) = list.parted(list.s - 1);
         let given = Prepared::of(old.clone()).numerator(&mut Rooms::of(&old, 0)).to_vec();
-        let rooms = Rooms::of(&list, given.len());
         let (rust_given, rust_old, rust_new) = (HilbertNum::of(given.clone()), old.picus(), new.picus());
-        Update { list, old, new, given, rooms, rust_given, rust_old, rust_new }
+        Update { list, old, new, given, rust_given, rust_old, rust_new }
+    }
+
+    pub fn rooms(&self) -> Rooms {
+        Rooms::of(&self.list, self.given.len())
     }
 
     #[inline(never)]
-    pub fn update(&mut self) -> &[i64] {
+    pub fn update<'a>(&self, rooms: &'a mut Rooms) -> &'a [i64] {
         let mut values: Values = [0; 4];
         let (old, new) = (black_box(&self.old), &self.new);
-        let lent = &mut self.rooms.lent();
         let number = bridge::update(
             old.n as u64,
             &self.given,
@@ -168,15 +182,19 @@ impl Update {
             &old.cells,
             new.s as u64,
             &new.cells,
-            lent,
+            &mut rooms.lent(),
             &mut values,
         );
         assert_eq!(number, 0);
-        &self.rooms.first[..values[0] as usize]
+        &rooms.first[..values[0] as usize]
     }
 
     #[inline(never)]
     pub fn rust_update(&self) -> HilbertNum {
         self.rust_given.add_generators_incremental(black_box(&self.rust_old), &self.rust_new)
+    }
+
+    pub fn is_same(&self) -> bool {
+        self.rust_update().coeffs() == self.update(&mut self.rooms())
     }
 }

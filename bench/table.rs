@@ -7,13 +7,32 @@ use crate::workloads::Asked;
 /// Seconds of processor time that picus has for a list.
 pub const LIMIT_SECONDS: i64 = 20;
 
+/// Nanoseconds below which picus is timed in turn with ours.
+const QUICK: f64 = 1e8;
+
 #[derive(Default)]
 pub struct Table {
     missed: Vec<String>,
 }
 
+/// Nanoseconds of ours and of picus: in turn where picus is quick, and otherwise each by itself.
+pub fn both(
+    seconds: i64,
+    ours: impl FnMut(),
+    mut rust: impl FnMut(),
+    same: impl FnOnce() -> bool,
+) -> (f64, Option<f64>) {
+    match self::rust(seconds, &mut rust, same) {
+        Some(time) if time < QUICK => {
+            let (ours, rust) = clock::in_turn(ours, rust);
+            (ours, Some(rust))
+        }
+        alone => (clock::median(ours), alone),
+    }
+}
+
 /// picus's nanoseconds, where it ends within so many seconds of processor time; its answer must be the same as ours.
-pub fn rust(seconds: i64, call: impl FnMut(), same: impl FnOnce() -> bool) -> Option<f64> {
+fn rust(seconds: i64, call: impl FnMut(), same: impl FnOnce() -> bool) -> Option<f64> {
     let timed = || {
         let time = clock::median(call);
         assert!(same(), "the Rust has another answer");
