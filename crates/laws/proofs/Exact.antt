@@ -10,10 +10,9 @@ use mathlib.Core.List.{List, [], _∷_, _++_}
 use Prim.Native.Nat.{ℕ, zero, suc, _+_, _*_, _-_, _≤_, _<_, _^_}
 use native.Mathlib.Omega.{arith}
 use native.Mathlib.Nat.{pow-le-pow-right, suc-mul, zero-mul}
-use lib.ListN.{length, take, drop, getD, replicate}
+use lib.ListN.{length, take, drop, replicate}
 use lib.Seq.{drop-drop}
 use lib.IntN.{ℤ, pos, negsuc, natAbs, _+ℤ_, +ℤ-idl}
-use lib.Signed.{mag}
 use mir.Val.{SFits}
 use mir.Syntax.{w64}
 use Rattle.laws.specs.Monomial.{divides}
@@ -21,9 +20,9 @@ use Rattle.laws.specs.Ideal.{listed, Within, multiple}
 use Rattle.laws.specs.Coefficients.{coefficient, shift, first, trim}
 use Rattle.laws.specs.Numerator.{numeratorAt, numerator}
 use Rattle.laws.specs.Room.{coefficientsAsked}
-use Rattle.laws.proofs.Ideal.{listed-count, listed-within}
+use Rattle.laws.proofs.Ideal.{listed-count}
 use Rattle.laws.proofs.Numerator.{numerator-bound}
-use Rattle.laws.proofs.Rows.{at, rows, rows-ext, rows-within, Wrote}
+use Rattle.laws.proofs.Rows.{at, rows, rows-within}
 use Rattle.laws.proofs.Pass.{Thinned}
 use Rattle.laws.proofs.Added.{low, low-exact, AddedTo, Zeros, Words}
 use Rattle.laws.proofs.Seed.{seeded, seeded-one, seeded-same}

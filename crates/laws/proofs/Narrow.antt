@@ -3,7 +3,7 @@
 --   Marks us m                == where us is 0, m is 0
 --   Used n k xs us            == us marks each of the first k monomials that lie in the cells xs, width n
 --   Placing us v ps w         == the first w of ps are the places below v at which us is not 0
---   Kept n w us cells xs i ys == ys is xs, and at its front the first i monomials of the cells, each without the variables where us is 0
+--   Kept n w us cells xs i ys == ys is as long as xs and has at its front the first i monomials of the cells, each without the variables where us is 0
 --   Narrowed n s cells xs w ys == at the front of ys lie s monomials of width w with the numerator of the s in the cells
 -- In this file:
 --   keep-degree, keep-quotient, keep-numerator   what is kept where us marks all
@@ -13,7 +13,7 @@ use mathlib.Core.Path.{_≡_, refl, sym, ap, ap₂, _∙_}
 use mathlib.Core.Logic.{inl, inr, _≢_}
 use mathlib.Core.Bool.{Bool, true, false}
 use mathlib.Core.List.{List, [], _∷_, map}
-use Prim.Native.Nat.{ℕ, zero, suc, _+_, _*_, _-_, _≤_, _<_, max}
+use Prim.Native.Nat.{ℕ, zero, suc, _+_, _*_, _≤_, _<_, max}
 use native.Mathlib.Omega.{arith}
 use native.Mathlib.Nat.{mul-le-mul-left}
 use native.Mathlib.Numerals.{add-one}

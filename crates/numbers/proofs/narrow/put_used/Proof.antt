@@ -1,6 +1,6 @@
 use Prim.Native.Nat.{_*_, _+_, _-_, _<_, _≤_, ℕ}
 use lib.ListN.{length}
-use mathlib.Core.Path.{_≡_, _∙_, ap, refl, subst, sym}
+use mathlib.Core.Path.{_≡_, _∙_, ap, subst, sym}
 use native.Mathlib.Nat.{le-of-eq, le-trans, mul-le-mul-left}
 use native.Mathlib.Omega.{arith}
 use Rattle.laws.proofs.Narrow.{Kept, Used, kept-more, kept-none, narrowed-kept}
