@@ -85,7 +85,7 @@ fn small(table: &mut Table) {
     small_rows(table, "numerator, squares", workloads::small_artinian, 800, NUMERATOR, Asked::Times(2.0));
     small_rows(table, "dimension, squares", workloads::small_artinian, 800, DIMENSION, Asked::Times(2.0));
     small_rows(table, "numerator, edges", workloads::edges, 730, NUMERATOR, Asked::Times(2.0));
-    small_rows(table, "numerator, wide", workloads::wide, 750, NUMERATOR, Asked::Nothing);
+    small_rows(table, "numerator, wide", workloads::wide, 750, NUMERATOR, Asked::Times(2.0));
 }
 
 fn dimensions(table: &mut Table) {
@@ -100,9 +100,9 @@ fn dimensions(table: &mut Table) {
 
 fn host(table: &mut Table) {
     table.head("host call");
-    small_rows(table, "squares", workloads::small_artinian, 800, HOST, Asked::Nothing);
+    small_rows(table, "squares", workloads::small_artinian, 800, HOST, Asked::Times(2.0));
     for s in [14, 17, 20] {
-        row(table, "circuit", workloads::circuit(&mut Random::of(850 + s as u64), s), HOST, Asked::Nothing);
+        row(table, "circuit", workloads::circuit(&mut Random::of(850 + s as u64), s), HOST, Asked::Times(2.0));
     }
 }
 

@@ -54,7 +54,6 @@ impl Table {
         let met = match asked {
             Asked::Times(times) => rust.is_none_or(|rust| rust >= times * ours),
             Asked::Milliseconds(most) => ours <= most * 1e6,
-            Asked::Nothing => true,
         };
         let (rust_text, ratio) = match rust {
             Some(rust) => (format!("{:.2}", rust / 1000.0), format!("{:.2}", rust / ours)),

@@ -10,8 +10,6 @@ pub enum Asked {
     Times(f64),
     /// At most so many milliseconds.
     Milliseconds(f64),
-    /// Shown only.
-    Nothing,
 }
 
 /// A list, and what its time is held to.
