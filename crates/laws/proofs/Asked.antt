@@ -3,9 +3,10 @@
 --   Lists n s xs t ys  == those cells hold the two lists, and no size asked for them overflows a word
 --   greatest xs        == the greatest number in xs, 0 for none
 -- In this file:
+--   column-listed, column-append, column-count   a column of a list in cells, of two lists, and its length
 --   at-first, at-second, columns   a column of both lists, cell by cell, and its length
 --   holds-next, holds-end        whether a number stands in the rest of a list
---   distinct-next                how many different numbers stand in the rest; distinct-most: at most its length
+--   distinct-next, distinct-end  how many different numbers stand in the rest; distinct-most: at most its length
 --   greatest-next, greatest-end  the greatest of the rest
 --   pairs-most                   e is at most n times the count
 --   lcm-degree                   the degree of the lcm of all: the greatest exponents added
@@ -35,7 +36,7 @@ use Rattle.laws.proofs.Dimension.{degree-sum}
 abbrev pub both : ℕ → ℕ → List ℕ → ℕ → List ℕ → List (List ℕ)
 both n s xs t ys = listed n s xs ++ listed n t ys
 
-column-listed : (n s : ℕ) (cells : List ℕ) (v i : ℕ) → v < n → i < s → getD (column (listed n s cells) v) i 0 ≡ getD cells (i * n + v) 0
+pub column-listed : (n s : ℕ) (cells : List ℕ) (v i : ℕ) → v < n → i < s → getD (column (listed n s cells) v) i 0 ≡ getD cells (i * n + v) 0
 column-listed n zero cells v i h l = absurd (omega arith)
 column-listed n (suc s) cells v zero h l = getD-take n cells v 0 h ∙ ap (λ (z : ℕ). getD cells z 0) (omega (arith, zero-mul n))
 column-listed n (suc s) cells v (suc i) h l =
@@ -43,11 +44,11 @@ column-listed n (suc s) cells v (suc i) h l =
     ∙ getD-drop n cells (i * n + v) 0
     ∙ ap (λ (z : ℕ). getD cells z 0) (omega (arith, suc-mul i n))
 
-column-append : (L K : List (List ℕ)) (v : ℕ) → column (L ++ K) v ≡ column L v ++ column K v
+pub column-append : (L K : List (List ℕ)) (v : ℕ) → column (L ++ K) v ≡ column L v ++ column K v
 column-append [] K v = refl
 column-append (m ∷ L) K v = ap (λ (xs : List ℕ). exponent m v ∷ xs) (column-append L K v)
 
-column-count : (L : List (List ℕ)) (v : ℕ) → length (column L v) ≡ length L
+pub column-count : (L : List (List ℕ)) (v : ℕ) → length (column L v) ≡ length L
 column-count [] v = refl
 column-count (m ∷ L) v = ap suc (column-count L v)
 
@@ -87,6 +88,9 @@ holds-end x xs i h = ap (holds x) (drop-of-length-le xs h)
 
 pub distinct-next : (xs : List ℕ) (i : ℕ) → i < length xs → distinct (drop i xs) ≡ cond (eqb (getD xs i 0) 0 || holds (getD xs i 0) (drop (i + 1) xs)) (distinct (drop (i + 1) xs)) (suc (distinct (drop (i + 1) xs)))
 distinct-next xs i h = ap distinct (rest xs i h)
+
+pub distinct-end : (xs : List ℕ) (i : ℕ) → length xs ≤ i → distinct (drop i xs) ≡ 0
+distinct-end xs i h = ap distinct (drop-of-length-le xs h)
 
 distinct-one : (b : Bool) (x y : ℕ) → x ≤ y → cond b x (suc x) ≤ suc y
 distinct-one true x y h = omega arith

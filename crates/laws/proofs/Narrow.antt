@@ -1,19 +1,18 @@
 -- A list written without the variables that no monomial has: its numerator is the same.
 --   keep us m                 == the exponents of m at the variables where us is not 0
 --   Marks us m                == where us is 0, m is 0
---   Used n k xs us            == us marks each of the first k monomials that lie in the cells xs, width n
 --   Placing us v ps w         == the first w of ps are the places below v at which us is not 0
 --   Kept n w us cells xs i ys == ys is as long as xs and has at its front the first i monomials of the cells, each without the variables where us is 0
 --   Narrowed n s cells xs w ys == at the front of ys lie s monomials of width w with the numerator of the s in the cells
 -- In this file:
 --   keep-degree, keep-quotient, keep-numerator   what is kept where us marks all
---   used-none, used-more, placing-none, placing-on, placing-past, kept-none, kept-more   the loops
+--   placing-none, placing-on, placing-past, kept-none, kept-more   the loops
 --   narrowed-copy, narrowed-kept                 what the two ways to write the list leave
 use mathlib.Core.Path.{_≡_, refl, sym, ap, ap₂, _∙_}
 use mathlib.Core.Logic.{inl, inr, _≢_}
 use mathlib.Core.Bool.{Bool, true, false}
 use mathlib.Core.List.{List, [], _∷_, map}
-use Prim.Native.Nat.{ℕ, zero, suc, _+_, _*_, _≤_, _<_, max}
+use Prim.Native.Nat.{ℕ, zero, suc, _+_, _*_, _≤_, _<_}
 use native.Mathlib.Omega.{arith}
 use native.Mathlib.Nat.{mul-le-mul-left}
 use native.Mathlib.Numerals.{add-one}
@@ -34,6 +33,7 @@ use Rattle.laws.proofs.Counting.{numerator-same}
 use Rattle.laws.proofs.Few.{quotient-cell}
 use Rattle.laws.proofs.Rows.{at, rows, rows-ext, rows-within, at-cell, at-length, apart, Wrote}
 use Rattle.laws.proofs.Exact.{rows-same}
+use Rattle.laws.proofs.Columns.{Joined, joined-zero}
 
 abbrev pub keep : List ℕ → List ℕ → List ℕ
 keep [] m = []
@@ -115,27 +115,7 @@ keeps n us (suc s) = keeps-more n us s (keeps n us s)
 pub keep-numerator : (n : ℕ) (us : List ℕ) (L : List (List ℕ)) → Width n L → ((m : List ℕ) → In m L → Marks us m) → (k : ℕ) → numeratorAt (map (keep us) L) k ≡ numeratorAt L k
 keep-numerator n us L = keeps n us (length L) L refl
 
--- the variables that some monomial has
-unfoldable pub Used : ℕ → ℕ → List ℕ → List ℕ → Type 0
-Used n k xs us = (i j : ℕ) → i < k → j < n → getD us j 0 ≡ 0 → getD xs (i * n + j) 0 ≡ 0
-
-pub used-none : (n : ℕ) (xs us : List ℕ) → Used n 0 xs us
-unfolding Used
-used-none n xs us i j h = absurd (omega arith)
-
-pub used-more : (n k : ℕ) (xs us vs m : List ℕ) → m ≡ at n k xs → Wrote us (λ j. max (getD us j 0) (getD m j 0)) 0 n vs → Used n k xs us → Used n (k + 1) xs vs
-unfolding Used
-used-more n k xs us vs m p w h i j g l z = go (eqb i k) refl
-  where
-    both : max (getD us j 0) (getD m j 0) ≡ 0
-    both = let f : 0 + j ≡ j = omega arith in sym (w .there j l) ∙ ap (λ (y : ℕ). getD vs y 0) f ∙ z
-
-    go : (b : Bool) → eqb i k ≡ b → getD xs (i * n + j) 0 ≡ 0
-    go true r =
-        ap (λ (y : ℕ). getD xs (y * n + j) 0) (eqb-true i k r) ∙ sym (at-cell n k j xs l) ∙ ap (λ (y : List ℕ). getD y j 0) (sym p) ∙ omega (arith, both)
-    go false r = h i j (omega (arith, eqb-false i k r)) l (omega (arith, both))
-
--- their places
+-- the places of the variables that some monomial has
 pub record Placing (us : List ℕ) (v : ℕ) (ps : List ℕ) (w : ℕ) : Type 0 where
   pub most : w ≤ v
   pub below : (j : ℕ) → j < w → getD ps j 0 < v
@@ -248,10 +228,9 @@ narrowed-copy n s cells xs ys l r w =
         let f : j ≡ 0 + j = omega arith in
         ap (λ (k : ℕ). getD ys k 0) f ∙ w .there j (omega arith)
 
-pub narrowed-kept : (n s : ℕ) (us cells xs : List ℕ) (w : ℕ) (ys ps : List ℕ) → length us ≡ n → length cells ≡ s * n → s * n ≤ length xs → Used n s cells us → Placing us (length us) ps w
+pub narrowed-kept : (n s : ℕ) (zs us cells xs : List ℕ) (w : ℕ) (ys ps : List ℕ) → length us ≡ n → length cells ≡ s * n → s * n ≤ length xs → Joined n s cells s zs us → Placing us (length us) ps w
     → Kept n w us cells xs s ys → Narrowed n s cells xs w ys
-unfolding Used
-narrowed-kept n s us cells xs w ys ps e l r u p k =
+narrowed-kept n s zs us cells xs w ys ps e l r u p k =
     record {
       len = k .len;
       less = omega (arith, p .most);
@@ -286,7 +265,7 @@ narrowed-kept n s us cells xs w ys ps e l r u p k =
     width (suc i) h m (inr q) = width i (omega arith) m q
 
     cell : (i j : ℕ) → i < s → getD us j 0 ≡ 0 → (b : Bool) → ltb j n ≡ b → getD (at n i cells) j 0 ≡ 0
-    cell i j h z true q = let g : j < n = ltb-true j n q in at-cell n i j cells g ∙ u i j h g z
+    cell i j h z true q = let g : j < n = ltb-true j n q in at-cell n i j cells g ∙ joined-zero n s cells zs us u i j h g z
     cell i j h z false q = List·getD-eq-default (at n i cells) 0 (omega (arith, row i h, ltb-false j n q))
 
     marked : (i : ℕ) → i ≤ s → (m : List ℕ) → In m (rows n i cells) → Marks us m

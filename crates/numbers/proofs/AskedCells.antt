@@ -24,11 +24,12 @@ use lib.Dec.{eqb}
 use lib.ListN.{length, drop, getD}
 use mir.Syntax.{w64}
 use mir.Val.{Fits}
-use borrow.Author.Tests.{eq-eqb, ne-eqb, eqb-true, eqb-false}
+use borrow.Author.Tests.{eq-eqb, ne-eqb}
 use Rattle.laws.specs.Ideal.{listed}
-use Rattle.laws.specs.Room.{cellsAsked, column, coefficientsAsked, distinct, holds, pairs}
+use Rattle.laws.specs.Room.{cellsAsked, column, coefficientsAsked, distinct, holds, pairs, pairs as pairsOf}
 use Rattle.laws.specs.Sums.{sumBelow}
-use Rattle.laws.proofs.Asked.{Lists, asked-is, asked-small, at-first, at-second, both, both-within, cells-small, columns, distinct-next, greatest, greatest-end, greatest-next, holds-end, holds-next, lcm-degree, sumBelow-ext, sumBelow-next}
+use Rattle.laws.proofs.Asked.{Lists, asked-is, asked-small, at-first, at-second, both, both-within, cells-small, coefficients-are, columns, distinct-end, distinct-most, distinct-next, greatest, greatest-end, greatest-next, holds-end, holds-next, lcm-degree, pairs-small, sumBelow-ext, sumBelow-next}
+use Rattle.laws.proofs.Columns.{few-distinct, greatest-held, held-most}
 use Rattle.laws.proofs.Ideal.{listed-count, listed-within}
 
 abbrev pub from : ℕ → List (List ℕ) → ℕ → List ℕ
@@ -45,6 +46,13 @@ newPair n L p = cond (eqb (cellAt n L p) 0 || holds (cellAt n L p) (behind n L p
 
 abbrev pub newDegree : ℕ → List (List ℕ) → ℕ → ℕ
 newDegree n L p = cellAt n L p - greatest (behind n L p)
+
+pub from-next : (n : ℕ) (L : List (List ℕ)) (k : ℕ) → 0 < n → from n L (k + n) ≡ behind n L k
+from-next n L k z = ap₂ (λ (i v : ℕ). drop i (column L v)) (add-div-right k z) (add-mod-right k n)
+
+-- no place in the lists is a large number
+pub cells-below : {n s t : ℕ} {xs ys : List ℕ} → Lists n s xs t ys → s * n + t * n ≤ 16777216
+cells-below {n} {s} {t} l = omega (arith, cells-small l, add-mul s t n)
 
 -- the cells of two lists
 
@@ -89,7 +97,7 @@ module _ {n s t : ℕ} {xs ys : List ℕ} (l : Lists n s xs t ys) (z : 0 < n) (a
     here = holds-next x (column (both n s xs t ys) (k % n)) (k / n) (row-below l z k g) ∙ ap (λ (w : ℕ). eqb x w || holds x (behind n (both n s xs t ys) k)) (sym e)
 
     next : from n (both n s xs t ys) (k + n) ≡ behind n (both n s xs t ys) k
-    next = ap₂ (λ (i v : ℕ). drop i (column (both n s xs t ys) v)) (add-div-right k z) (add-mod-right k n)
+    next = from-next n (both n s xs t ys) k z
 
     pub sought-here : x ≡ y → Found n (both n s xs t ys) a x x
     sought-here h =
@@ -110,23 +118,25 @@ module _ {n s t : ℕ} {xs ys : List ℕ} (l : Lists n s xs t ys) (z : 0 < n) (a
       let f : holds x (from n (both n s xs t ys) a) ≡ false = q .1 ∙ holds-end x (column (both n s xs t ys) (k % n)) (k / n) (row-past l z k g) in
       rw f (omega (arith, greatest-end (column (both n s xs t ys) (k % n)) (k / n) (row-past l z k g), q .2))
 
--- an exponent that is the greatest of a list stands in it, and one that stands in it is at most the greatest
+-- what was found behind the cell k
 
-held-most : (x : ℕ) (zs : List ℕ) → holds x zs ≡ true → x ≤ greatest zs
-held-most x [] h = absurd (false≢true h)
-held-most x (y ∷ zs) h = go (eqb x y) refl h (held-most x zs)
-  where
-    go : (b : Bool) → eqb x y ≡ b → (b || holds x zs) ≡ true → (holds x zs ≡ true → x ≤ greatest zs) → x ≤ max y (greatest zs)
-    go true e i f = omega (arith, eqb-true x y e)
-    go false e i f = omega (arith, f i)
+module _ (n : ℕ) (L : List (List ℕ)) (k x y : ℕ) (z : 0 < n) (f : Found n L (k + n) x y) where
+  pub found-behind : y ≡ cond (holds x (behind n L k)) x (greatest (behind n L k))
+  found-behind = f ∙ ap (λ (w : List ℕ). cond (holds x w) x (greatest w)) (from-next n L k z)
 
-greatest-held : (x : ℕ) (zs : List ℕ) → x ≡ greatest zs → (x ≡ 0 → ⊥) → holds x zs ≡ true
-greatest-held x [] e h = absurd (h e)
-greatest-held x (y ∷ zs) e h = go (eqb x y) refl (λ i. greatest-held x zs i h)
-  where
-    go : (b : Bool) → eqb x y ≡ b → (x ≡ greatest zs → holds x zs ≡ true) → (b || holds x zs) ≡ true
-    go true f i = refl
-    go false f i = i (omega (arith, eqb-false x y f))
+  pub found-held : (x ≡ 0 → ⊥) → x ≡ y → holds x (behind n L k) ≡ true
+  found-held h i = go (holds x (behind n L k)) refl
+    where
+      go : (b : Bool) → holds x (behind n L k) ≡ b → holds x (behind n L k) ≡ true
+      go true q = q
+      go false q = greatest-held x (behind n L k) (i ∙ (rw q at found-behind)) h
+
+  pub found-new : (x ≡ y → ⊥) → holds x (behind n L k) ≡ false
+  found-new i = go (holds x (behind n L k)) refl
+    where
+      go : (b : Bool) → holds x (behind n L k) ≡ b → holds x (behind n L k) ≡ false
+      go true q = absurd (i (sym (rw q at found-behind)))
+      go false q = q
 
 -- a list has cells only where there are variables
 pub variables : (n s k : ℕ) → k < s * n → 0 < n
@@ -158,29 +168,110 @@ module _ {n s t : ℕ} {xs ys : List ℕ} (l : Lists n s xs t ys) (k pairs degre
       turned p d (rw (is, h) (omega arith)) (rw (is, h) (omega arith)) (omega arith) (omega arith) (omega arith) (omega arith)
 
   module _ (h : x ≡ 0 → ⊥) (y : ℕ) (f : Found n (both n s xs t ys) (k + n) x y) where
-    rest : from n (both n s xs t ys) (k + n) ≡ behind n (both n s xs t ys) k
-    rest = ap₂ (λ (i v : ℕ). drop i (column (both n s xs t ys) v)) (add-div-right k wide) (add-mod-right k n)
-
     found : y ≡ cond (holds x (behind n (both n s xs t ys) k)) x (greatest (behind n (both n s xs t ys) k))
-    found = f ∙ ap (λ (w : List ℕ). cond (holds x w) x (greatest w)) rest
+    found = found-behind n (both n s xs t ys) k x y wide f
 
     pub turned-held : (p d : ℕ) → x ≡ y → p ≡ pairs → d ≡ degree → Turned p d
-    turned-held p d i fp fd = go (holds x (behind n (both n s xs t ys) k)) refl
-      where
-        go : (b : Bool) → holds x (behind n (both n s xs t ys) k) ≡ b → Turned p d
-        go true q = turned p d (rw (is, ne-eqb x 0 h, q) (omega arith)) (rw is (omega (arith, held-most x (behind n (both n s xs t ys) k) q))) (omega arith) (omega arith) (omega arith) (omega arith)
-        go false q =
-            let w : x ≡ greatest (behind n (both n s xs t ys) k) = i ∙ (rw q at found) in
-            absurd (false≢true (sym q ∙ greatest-held x (behind n (both n s xs t ys) k) w h))
+    turned-held p d i fp fd =
+        let q = found-held n (both n s xs t ys) k x y wide f h i in
+        turned p d (rw (is, ne-eqb x 0 h, q) (omega arith)) (rw is (omega (arith, held-most x (behind n (both n s xs t ys) k) q))) (omega arith) (omega arith) (omega arith) (omega arith)
 
     pub turned-new : (p d c : ℕ) → (x ≡ y → ⊥) → x < 65536 → c ≡ x - y → p ≡ pairs + 1 → d ≡ degree + c → Turned p d
-    turned-new p d c i r fc fp fd = go (holds x (behind n (both n s xs t ys) k)) refl
+    turned-new p d c i r fc fp fd =
+        let q = found-new n (both n s xs t ys) k x y wide f i in
+        let w : y ≡ greatest (behind n (both n s xs t ys) k) = rw q at found in
+        turned p d (rw (is, ne-eqb x 0 h, q) (omega arith)) (rw (is, sym w) (omega arith)) (omega arith) (omega arith) (omega arith) (omega arith)
+
+-- the loop over the exponents of one variable
+
+abbrev pub Counted : ℕ → List (List ℕ) → ℕ → ℕ → ℕ → Type 0
+Counted n L v count k = (k % n ≡ v) × (count + distinct (from n L k) ≡ distinct (column L v)) × (count ≤ k)
+
+pub counted-none : (n : ℕ) (L : List (List ℕ)) (v : ℕ) → v < n → Counted n L v 0 v
+counted-none n L v h = (mod-eq-of-lt h, rw (mod-eq-of-lt h, div-eq-of-lt h) (omega arith), omega arith)
+
+module _ {n s t : ℕ} {xs ys : List ℕ} (l : Lists n s xs t ys) (z : 0 < n) (v count k : ℕ) (q : Counted n (both n s xs t ys) v count k) where
+  module _ (g : k < s * n + t * n) (x : ℕ) (e : x ≡ cellAt n (both n s xs t ys) k) where
+    counted : (new : ℕ) (b : Bool) → (eqb x 0 || holds x (behind n (both n s xs t ys) k)) ≡ b → new ≡ cond b count (count + 1) → Counted n (both n s xs t ys) v new (k + n)
+    counted new b f i = (add-mod-right k n ∙ q .0, sums b f i, few b i)
       where
-        go : (b : Bool) → holds x (behind n (both n s xs t ys) k) ≡ b → Turned p d
-        go true q = absurd (i (sym (rw q at found)))
-        go false q =
-            let w : y ≡ greatest (behind n (both n s xs t ys) k) = rw q at found in
-            turned p d (rw (is, ne-eqb x 0 h, q) (omega arith)) (rw (is, sym w) (omega arith)) (omega arith) (omega arith) (omega arith) (omega arith)
+        here : distinct (from n (both n s xs t ys) k) ≡ cond (eqb x 0 || holds x (behind n (both n s xs t ys) k)) (distinct (behind n (both n s xs t ys) k)) (suc (distinct (behind n (both n s xs t ys) k)))
+        here = distinct-next (column (both n s xs t ys) (k % n)) (k / n) (row-below l z k g) ∙ rw (sym e)
+
+        sums : (b : Bool) → (eqb x 0 || holds x (behind n (both n s xs t ys) k)) ≡ b → new ≡ cond b count (count + 1) → new + distinct (from n (both n s xs t ys) (k + n)) ≡ distinct (column (both n s xs t ys) v)
+        sums true f i = omega (arith, q .1, rw f at here, ap distinct (from-next n (both n s xs t ys) k z))
+        sums false f i = omega (arith, q .1, rw f at here, ap distinct (from-next n (both n s xs t ys) k z))
+
+        few : (b : Bool) → new ≡ cond b count (count + 1) → new ≤ k + n
+        few true i = omega (arith, q .2)
+        few false i = omega (arith, q .2)
+
+    pub counted-zero : (new : ℕ) → x ≡ 0 → new ≡ count → Counted n (both n s xs t ys) v new (k + n)
+    counted-zero new h i = counted new true (ap (λ (b : Bool). b || holds x (behind n (both n s xs t ys) k)) (eq-eqb x 0 h)) i
+
+    module _ (h : x ≡ 0 → ⊥) (y : ℕ) (f : Found n (both n s xs t ys) (k + n) x y) (new : ℕ) where
+      some : (b : Bool) → holds x (behind n (both n s xs t ys) k) ≡ b → (eqb x 0 || holds x (behind n (both n s xs t ys) k)) ≡ b
+      some b p = ap (λ (c : Bool). c || holds x (behind n (both n s xs t ys) k)) (ne-eqb x 0 h) ∙ p
+
+      pub counted-held : x ≡ y → new ≡ count → Counted n (both n s xs t ys) v new (k + n)
+      counted-held w i = counted new true (some true (found-held n (both n s xs t ys) k x y z f h w)) i
+
+      pub counted-new : (x ≡ y → ⊥) → new ≡ count + 1 → Counted n (both n s xs t ys) v new (k + n)
+      counted-new w i = counted new false (some false (found-new n (both n s xs t ys) k x y z f w)) i
+
+  pub count-more : k < s * n + t * n → Fits w64 (count + 1)
+  count-more g = omega (arith, q .2, cells-below l)
+
+  pub counted-all : s * n + t * n ≤ k → count ≡ distinct (column (both n s xs t ys) v)
+  counted-all g = omega (arith, q .1, distinct-end (column (both n s xs t ys) (k % n)) (k / n) (row-past l z k g))
+
+-- the loop over the variables, whose greatest exponents are known
+
+abbrev pub Summed : ℕ → List (List ℕ) → ℕ → ℕ → ℕ → Type 0
+Summed n L pairs degree v = (v ≤ n) × (pairs ≡ sumBelow v (λ w. distinct (column L w))) × (degree ≡ sumBelow v (λ w. greatest (column L w))) × (pairs ≤ v * 4096) × (degree ≤ v * 65535)
+
+pub summed-none : (n : ℕ) (L : List (List ℕ)) → Summed n L 0 0 0
+summed-none n L = (omega arith, refl, refl, omega arith, omega arith)
+
+module _ {n s t : ℕ} {xs ys : List ℕ} (l : Lists n s xs t ys) (us : List ℕ) (e : length us ≡ n) (v : ℕ) where
+  pub column-in : v < n → v < length us
+  column-in g = omega arith
+
+  pub column-bytes : v < n → Fits w64 (v * 2)
+  column-bytes g = omega (arith, l .width)
+
+  pub column-next : v < n → Fits w64 (v + 1)
+  column-next g = omega (arith, l .width)
+
+  pub degree-more : (d u : ℕ) → v < n → d ≤ v * 65535 → u < 65536 → Fits w64 (d + u)
+  degree-more d u g h r = omega (arith, l .width)
+
+  module _ (k : (w : ℕ) → w < n → getD us w 0 ≡ greatest (column (both n s xs t ys) w)) (pairs degree : ℕ) (q : Summed n (both n s xs t ys) pairs degree v) where
+    module _ (g : v < n) (p : ℕ) (c : ((1 < getD us v 0) × (p ≡ distinct (column (both n s xs t ys) v))) ⊎ ((getD us v 0 ≤ 1) × (p ≡ getD us v 0))) where
+      new : ((1 < getD us v 0) × (p ≡ distinct (column (both n s xs t ys) v))) ⊎ ((getD us v 0 ≤ 1) × (p ≡ getD us v 0)) → p ≡ distinct (column (both n s xs t ys) v)
+      new (inl w) = w .1
+      new (inr w) =
+          omega (arith, w .0, w .1, k v g, few-distinct (column (both n s xs t ys) v) (omega (arith, w .0, k v g)))
+
+      few : p ≤ 4096
+      few = omega (arith, new c, distinct-most (column (both n s xs t ys) v), columns l v, l .count)
+
+      pub pairs-more : Fits w64 (pairs + p)
+      pairs-more = omega (arith, few, q .3, l .width)
+
+      pub summed-next : getD us v 0 < 65536 → Summed n (both n s xs t ys) (pairs + p) (degree + getD us v 0) (v + 1)
+      summed-next r = (
+        omega arith,
+        sumBelow-next v pairs p (λ w. distinct (column (both n s xs t ys) w)) (new c) (q .1),
+        sumBelow-next v degree (getD us v 0) (λ w. greatest (column (both n s xs t ys) w)) (k v g) (q .2),
+        omega (arith, few, q .3),
+        omega (arith, q .4),
+      )
+
+    pub summed-all : n ≤ v → (pairs ≡ pairsOf n (both n s xs t ys)) × (degree + 1 ≡ coefficientsAsked (both n s xs t ys)) × (degree ≤ 8192 * 4096 * 65535)
+    summed-all g =
+        let f : v ≡ n = omega (arith, q .0) in
+        (q .1 ∙ ap (λ (w : ℕ). sumBelow w (λ u. distinct (column (both n s xs t ys) u))) f, ap (λ (w : ℕ). w + 1) (q .2 ∙ ap (λ (w : ℕ). sumBelow w (λ u. greatest (column (both n s xs t ys) u))) f) ∙ coefficients-are l, omega (arith, q .4, l .width))
 
 -- sums over the cells, variable by variable
 
@@ -267,10 +358,6 @@ degree-all zero s xs t ys l =
     omega (arith, ap (λ (q : ℕ). sumBelow q (newDegree 0 (both 0 s xs t ys))) (mul-zero s), lcm-degree 0 (listed 0 t ys) (listed-within 0 t ys), lcm-degree 0 (both 0 s xs t ys) (both-within 0 s xs t ys))
 degree-all (suc n) s xs t ys l = degree-added l (omega arith)
 
--- no place in the lists is a large number
-pub cells-below : {n s t : ℕ} {xs ys : List ℕ} → Lists n s xs t ys → s * n + t * n ≤ 16777216
-cells-below {n} {s} {t} l = omega (arith, cells-small l, add-mul s t n)
-
 -- the second list, with none behind it
 pub alone : {n s t : ℕ} {xs ys : List ℕ} → Lists n s xs t ys → Lists n t ys 0 ys
 alone {n} l = record { first = l .second; second = rw (zero-mul n) (omega arith); width = l .width; count = omega (arith, l .count) }
@@ -345,24 +432,28 @@ module _ {n s t : ℕ} {xs ys : List ℕ} (l : Lists n s xs t ys) where
   pub rows-fit : Fits w64 ((s + t) * n)
   rows-fit = omega (arith, cells-small l)
 
-  module _ (p q : ℕ) (h : p ≤ 4096 * 4096) (g : q ≤ 4096 * 4096) where
-    pub pairs-fit-both : Fits w64 (p + q)
-    pairs-fit-both = omega arith
+  module _ (p : ℕ) (e : p ≡ pairs n (both n s xs t ys)) where
+    pub factor-fits : Fits w64 (s + t + p)
+    factor-fits = omega (arith, l .count, pairs-small l)
 
-    pub factor-fits : Fits w64 (s + t + (p + q))
-    factor-fits = omega (arith, l .count)
-
-    pub product-fits : p + q ≡ pairs n (both n s xs t ys) → Fits w64 ((s + t) * n * (s + t + (p + q)))
-    product-fits e =
-        let f : (s + t) * n * (s + t + (p + q)) ≤ 4096 * 4096 * (4096 + 4096 * 4096) = rw e (asked-small l) in
+    pub product-fits : Fits w64 ((s + t) * n * (s + t + p))
+    product-fits =
+        let f : (s + t) * n * (s + t + p) ≤ 4096 * 4096 * (4096 + 4096 * 4096) = rw e (asked-small l) in
         omega arith
 
-    pub product-is : p + q ≡ pairs n (both n s xs t ys) → (s + t) * n * (s + t + (p + q)) ≡ cellsAsked n (both n s xs t ys)
-    product-is e = rw e (asked-is l)
+    pub product-is : (s + t) * n * (s + t + p) ≡ cellsAsked n (both n s xs t ys)
+    product-is = rw e (asked-is l)
 
-  module _ (p q : ℕ) (h : p ≤ 4096 * 4096 * 65535) (g : q ≤ 4096 * 4096 * 65535) where
-    pub degrees-fit : Fits w64 (p + q)
-    degrees-fit = omega arith
+-- what both lists add
+pub pairs-fit-both : (p q : ℕ) → p ≤ 4096 * 4096 → q ≤ 4096 * 4096 → Fits w64 (p + q)
+pairs-fit-both p q h g = omega arith
 
-    pub degrees-fit-one : Fits w64 (p + q + 1)
-    degrees-fit-one = omega arith
+module _ (p q : ℕ) (h : p ≤ 4096 * 4096 * 65535) (g : q ≤ 4096 * 4096 * 65535) where
+  pub degrees-fit : Fits w64 (p + q)
+  degrees-fit = omega arith
+
+  pub degrees-most : p + q ≤ 8192 * 4096 * 65535
+  degrees-most = omega arith
+
+pub degree-fits-one : (d : ℕ) → d ≤ 8192 * 4096 * 65535 → Fits w64 (d + 1)
+degree-fits-one d h = omega arith

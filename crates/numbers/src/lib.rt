@@ -2,8 +2,10 @@
 mod asked;
 mod branch;
 pub mod coefficients;
+mod columns;
 pub mod dimension;
 mod engine;
+mod extent;
 mod few;
 pub mod hf_at;
 mod hints;

@@ -1,5 +1,5 @@
 // The masks of a whole list, by which most divisions are ruled out without a look at the exponents: the first minimal list.
-use crate::asked::greater;
+use crate::columns::greater;
 use crate::minimal::minimalize;
 use crate::rows::row;
 use monomials::divmask::MaskOutcome;

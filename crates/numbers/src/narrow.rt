@@ -1,38 +1,13 @@
 // The list written to the room. Of more than 32 variables those that no monomial has are left out: the numerator is the same, and every
 // pass over a monomial is as short as it can be.
-use crate::asked::greater;
+use crate::columns::join_all;
 use crate::rows::put_cells;
 use crate::rows::row;
 ghost use mathlib.Core.Path.{_≡_};
-ghost use Prim.Native.Nat.{ℕ, _+_, _*_, _<_, _≤_, max};
+ghost use Prim.Native.Nat.{ℕ, _+_, _*_, _<_, _≤_};
 ghost use lib.ListN.{length, getD};
-ghost use Rattle.laws.proofs.Narrow.{Used, Placing, Narrowed};
+ghost use Rattle.laws.proofs.Narrow.{Placing, Narrowed};
 ghost use Rattle.laws.proofs.Rows.{Wrote};
-
-// The greater exponent of the two, for each variable.
-fn join(us: &mut [u16], m: &[u16])
-    requires { ⌜ length (now us) ≤ length (now m) ⌝ }
-    ensures { λ _. ⌜ Wrote (now (us .entry)) (λ j. max (getD (now (us .entry)) j 0) (getD (now (m .entry)) j 0)) 0 (length (now (us .entry))) (now (us .exit)) ⌝ }
-{
-    let mut v: usize = 0;
-    while v < us.len() {
-        us[v] = greater(us[v], m[v]);
-        v += 1;
-    }
-}
-
-// us is 0 only where every one of the s monomials is.
-fn used(us: &mut [u16], s: usize, cells: &[u16])
-    requires { ⌜ s * length (now us) ≤ length (now cells) ⌝ }
-    ensures { λ _. ⌜ (length (now (us .exit)) ≡ length (now (us .entry))) × Used (length (now (us .entry))) s (now (cells .entry)) (now (us .exit)) ⌝ }
-{
-    let n = us.len();
-    let mut i: usize = 0;
-    while i < s {
-        join(us, row(cells, n, i));
-        i += 1;
-    }
-}
 
 // The places at which us is not 0; how many.
 fn places(us: &[u16], ps: &mut [usize]) -> usize
@@ -75,7 +50,7 @@ fn put_used(
     requires { ⌜ (length (now cells) ≡ s * n) × (s * n ≤ length (now room)) × (length (now us) ≡ n) × (length (now ps) ≡ n) ⌝ }
     ensures { λ r. ⌜ Narrowed n s (now (cells .entry)) (now (room .entry)) r (now (room .exit)) ⌝ }
 {
-    used(us, s, cells);
+    join_all(us, s, cells);
     let w = places(us, ps);
     let mut i: usize = 0;
     while i < s {

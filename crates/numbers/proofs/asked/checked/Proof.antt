@@ -24,7 +24,7 @@ checked-spec =
     -- returns-6
     (λ c. let p1 = c .before in let p2 = p1 .before in let p3 = p2 .before in let p4 = p3 .before in let p5 = p4 .before in let p8 = p5 .before .before .before in stops-large (p8 .args .n) (p8 .args .s) (p8 .args .xs .now) (p8 .args .t) (p8 .args .ys .now) (p8 .args .large) (p8 .args .least) (p8 .args .room) (p8 .args .first) (p8 .args .second) (p5 .if1 .left) (few-both (p8 .args .s) (p8 .args .t) (p4 .if2 .left) (p3 .if3 .left)) (p2 .if4 .left) (p1 .if5 .left) (c .if6 .taken))
     -- asked-requires
-    (λ c κs. let p1 = c .before in let p2 = p1 .before in let p3 = p2 .before in let p4 = p3 .before in let p5 = p4 .before in let p8 = p5 .before .before .before in two-lists (p8 .args .n) (p8 .args .s) (p8 .args .xs .now) (p8 .args .t) (p8 .args .ys .now) (p5 .if1 .left) (few-both (p8 .args .s) (p8 .args .t) (p4 .if2 .left) (p3 .if3 .left)) (p2 .if4 .left) (p1 .if5 .left))
+    (λ c κs. let p1 = c .before in let p2 = p1 .before in let p3 = p2 .before in let p4 = p3 .before in let p5 = p4 .before in let p8 = p5 .before .before .before in (two-lists (p8 .args .n) (p8 .args .s) (p8 .args .xs .now) (p8 .args .t) (p8 .args .ys .now) (p5 .if1 .left) (few-both (p8 .args .s) (p8 .args .t) (p4 .if2 .left) (p3 .if3 .left)) (p2 .if4 .left) (p1 .if5 .left), p5 .if1 .left))
     -- returns-7
     (λ c. let p2 = c .before .before in let p3 = p2 .before in let p4 = p3 .before in let p5 = p4 .before in let p6 = p5 .before in let p7 = p6 .before in let p8 = p7 .before in let p11 = p8 .before .before .before in stops-room (p11 .args .n) (p11 .args .s) (p11 .args .xs .now) (p11 .args .t) (p11 .args .ys .now) (p11 .args .large) (p11 .args .least) (p11 .args .room) (p11 .args .first) (p11 .args .second) (p8 .if1 .left) (few-both (p11 .args .s) (p11 .args .t) (p7 .if2 .left) (p6 .if3 .left)) (p5 .if4 .left) (p4 .if5 .left) (p3 .if6 .left) (p2 .asked .result) (p2 .asked .ensures .0) (p2 .asked .ensures .1) (c .if7 .taken))
     -- returns-8

@@ -2,8 +2,8 @@ use Prim.Native.Nat.{_*_, _+_, _-_}
 use mathlib.Core.Logic.{⊎-elim, inl, inr}
 use Rattle.laws.proofs.Asked.{both}
 use Rattle.numbers.proofs.AskedCells.{Sought, all-fits, all-step, cell-is, first-bytes, first-fits, first-in, second-bytes, second-fits, second-in, sought-end, sought-here, sought-next, sought-none, step-less}
-use Rattle.numbers.proofs.asked.later.Statement.{statement}
-use Rattle.numbers.proofs.asked.later.Tie as tie
+use Rattle.numbers.proofs.extent.later.Statement.{statement}
+use Rattle.numbers.proofs.extent.later.Tie as tie
 
 abbrev Inv-loop : tie.InvT-loop
 Inv-loop n s xs t ys from x a end best₀ k₀ best k = Sought n (both n s xs t ys) from x best k

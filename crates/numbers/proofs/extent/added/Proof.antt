@@ -9,8 +9,8 @@ use Rattle.laws.specs.Room.{coefficientsAsked, pairs}
 use Rattle.laws.specs.Sums.{sumBelow}
 use Rattle.numbers.proofs.AskedCells.{degree-all, degree-fits, degree-least, first-bytes, first-fits, first-in, first-step, newDegree, newPair, pairs-all, pairs-fit, pairs-least, turned-held, turned-new, turned-zero, variables}
 use Rattle.numbers.proofs.Steps.{loop-ended, next-fits, next-less, zero-least}
-use Rattle.numbers.proofs.asked.added.Statement.{statement}
-use Rattle.numbers.proofs.asked.added.Tie as tie
+use Rattle.numbers.proofs.extent.added.Statement.{statement}
+use Rattle.numbers.proofs.extent.added.Tie as tie
 
 abbrev Inv-loop : tie.InvT-loop
 Inv-loop n s xs t ys end pairs₀ degree₀ k₀ pairs degree k = (k ≤ s * n) × (pairs ≡ sumBelow k (newPair n (both n s xs t ys))) × (degree ≡ sumBelow k (newDegree n (both n s xs t ys))) × (pairs ≤ k) × (degree ≤ k * 65535)

@@ -5,8 +5,8 @@ use mathlib.Core.Path.{_∙_, ap, subst, sym}
 use native.Mathlib.Nat.{le-of-eq, le-trans, zero-add}
 use Rattle.laws.proofs.Rows.{Wrote, wrote-more, wrote-none}
 use Rattle.numbers.proofs.Steps.{loop-ended, next-fits-in, next-less, next-within, place-bytes, zero-least}
-use Rattle.numbers.proofs.narrow.join.Statement.{statement}
-use Rattle.numbers.proofs.narrow.join.Tie as tie
+use Rattle.numbers.proofs.columns.join.Statement.{statement}
+use Rattle.numbers.proofs.columns.join.Tie as tie
 
 abbrev Inv-loop : tie.InvT-loop
 Inv-loop us₀ m v₀ us v = (v ≤ length us₀) × Wrote us₀ (λ j. max (getD us₀ j 0) (getD m j 0)) 0 v us

@@ -1,0 +1,115 @@
+-- The greatest exponent of each variable, monomial by monomial.
+--   Joined n s cells i us vs  == in vs stands for each of n variables the greatest of its first i exponents in the s monomials, or what us has
+-- In this file:
+--   joined-none, joined-more  no monomial, and one more
+--   joined-both               two lists, one after the other: the greatest of both
+--   joined-zero               where it is 0, every monomial has 0
+--   zeros-front               a part of a list of zeros
+--   held-most, greatest-held  what stands in a list is at most its greatest, and that stands in it; greatest-none: where it is 0, all are
+--   few-distinct              a greatest of at most 1 is how many different ones other than 0 there are
+use mathlib.Core.Path.{_≡_, refl, sym, ap, subst, _∙_}
+use mathlib.Core.Bool.{Bool, true, false, _||_, cond, false≢true}
+use mathlib.Core.List.{List, [], _∷_, _++_}
+use Prim.Native.Nat.{ℕ, zero, suc, _+_, _*_, _≤_, _<_, max}
+use native.Mathlib.Omega.{arith}
+use native.Mathlib.Numerals.{add-one}
+use lib.Dec.{eqb}
+use lib.ListN.{length, getD, take, replicate}
+use lib.Seq.{take-all}
+use borrow.Author.Tests.{eqb-true, eqb-false}
+use Rattle.laws.specs.Ideal.{listed}
+use Rattle.laws.specs.Room.{holds, distinct, column}
+use Rattle.laws.proofs.Asked.{both, column-append, column-count, column-listed, greatest}
+use Rattle.laws.proofs.Ideal.{listed-count}
+use Rattle.laws.proofs.Rows.{at, at-cell, Wrote}
+
+-- the greatest of a list
+
+pub held-most : (x : ℕ) (zs : List ℕ) → holds x zs ≡ true → x ≤ greatest zs
+held-most x [] h = absurd (false≢true h)
+held-most x (y ∷ zs) h = go (eqb x y) refl h (held-most x zs)
+  where
+    go : (b : Bool) → eqb x y ≡ b → (b || holds x zs) ≡ true → (holds x zs ≡ true → x ≤ greatest zs) → x ≤ max y (greatest zs)
+    go true e i f = omega (arith, eqb-true x y e)
+    go false e i f = omega (arith, f i)
+
+pub greatest-held : (x : ℕ) (zs : List ℕ) → x ≡ greatest zs → (x ≡ 0 → ⊥) → holds x zs ≡ true
+greatest-held x [] e h = absurd (h e)
+greatest-held x (y ∷ zs) e h = go (eqb x y) refl (λ i. greatest-held x zs i h)
+  where
+    go : (b : Bool) → eqb x y ≡ b → (x ≡ greatest zs → holds x zs ≡ true) → (b || holds x zs) ≡ true
+    go true f i = refl
+    go false f i = i (omega (arith, eqb-false x y f))
+
+pub few-distinct : (zs : List ℕ) → greatest zs ≤ 1 → distinct zs ≡ greatest zs
+few-distinct [] h = refl
+few-distinct (x ∷ zs) h = go (eqb x 0) refl (holds x zs) refl (few-distinct zs (omega arith))
+  where
+    none : (y : ℕ) → greatest zs ≡ y → (x ≡ 0 → ⊥) → holds x zs ≡ false → y ≡ 0
+    none zero e f g = refl
+    none (suc y) e f g = absurd (false≢true (sym g ∙ greatest-held x zs (omega (arith, f)) f))
+
+    go : (b : Bool) → eqb x 0 ≡ b → (c : Bool) → holds x zs ≡ c → distinct zs ≡ greatest zs → cond (b || c) (distinct zs) (suc (distinct zs)) ≡ max x (greatest zs)
+    go true e c f i = omega (arith, eqb-true x 0 e)
+    go false e true f i = omega (arith, held-most x zs f)
+    go false e false f i = omega (arith, eqb-false x 0 e, none (greatest zs) refl (eqb-false x 0 e) f)
+
+pub greatest-none : (zs : List ℕ) (i : ℕ) → greatest zs ≡ 0 → getD zs i 0 ≡ 0
+greatest-none [] i h = refl
+greatest-none (x ∷ zs) zero h = omega arith
+greatest-none (x ∷ zs) (suc i) h = greatest-none zs i (omega arith)
+
+greatest-append : (xs ys : List ℕ) → greatest (xs ++ ys) ≡ max (greatest xs) (greatest ys)
+greatest-append [] ys = omega arith
+greatest-append (x ∷ xs) ys = omega (arith, greatest-append xs ys)
+
+greatest-take : (xs : List ℕ) (k : ℕ) → greatest (take (suc k) xs) ≡ max (greatest (take k xs)) (getD xs k 0)
+greatest-take [] zero = refl
+greatest-take [] (suc k) = refl
+greatest-take (x ∷ xs) zero = omega arith
+greatest-take (x ∷ xs) (suc k) = omega (arith, greatest-take xs k)
+
+-- the greatest exponents, monomial by monomial
+
+unfoldable pub Joined : ℕ → ℕ → List ℕ → ℕ → List ℕ → List ℕ → Type 0
+Joined n s cells i us vs = (j : ℕ) → j < n → getD vs j 0 ≡ max (getD us j 0) (greatest (take i (column (listed n s cells) j)))
+
+pub joined-none : (n s : ℕ) (cells us : List ℕ) → Joined n s cells 0 us us
+unfolding Joined
+joined-none n s cells us j h = omega arith
+
+pub joined-more : (n s k : ℕ) (cells us vs ws m : List ℕ) → k < s → m ≡ at n k cells → Wrote vs (λ j. max (getD vs j 0) (getD m j 0)) 0 n ws → Joined n s cells k us vs → Joined n s cells (k + 1) us ws
+unfolding Joined
+joined-more n s k cells us vs ws m h e w g j l =
+    rw (add-one k) (omega (arith, here, there, g j l, greatest-take (column (listed n s cells) j) k))
+  where
+    here : getD ws j 0 ≡ max (getD vs j 0) (getD m j 0)
+    here = let f : j ≡ 0 + j = omega arith in ap (λ (y : ℕ). getD ws y 0) f ∙ w .there j l
+
+    there : getD m j 0 ≡ getD (column (listed n s cells) j) k 0
+    there = ap (λ (y : List ℕ). getD y j 0) e ∙ at-cell n k j cells l ∙ sym (column-listed n s cells j k l h)
+
+whole : (n s : ℕ) (cells : List ℕ) (v : ℕ) → take s (column (listed n s cells) v) ≡ column (listed n s cells) v
+whole n s cells v = take-all s (column (listed n s cells) v) (omega (arith, column-count (listed n s cells) v, listed-count n s cells))
+
+module _ (n s : ℕ) (xs : List ℕ) (t : ℕ) (ys us vs ws : List ℕ) where
+  both-joined : ((j : ℕ) → getD us j 0 ≡ 0) → Joined n s xs s us vs → Joined n t ys t vs ws → (v : ℕ) → v < n → getD ws v 0 ≡ greatest (column (both n s xs t ys) v)
+  unfolding Joined
+  both-joined z f g v h =
+      omega (arith, g v h, f v h, z v, ap greatest (whole n s xs v), ap greatest (whole n t ys v), ap greatest (column-append (listed n s xs) (listed n t ys) v), greatest-append (column (listed n s xs) v) (column (listed n t ys) v))
+
+  pub joined-both : length us ≡ n → ((j : ℕ) → getD us j 0 ≡ 0) → (length vs ≡ length us) × Joined (length us) s xs s us vs → (length ws ≡ length vs) × Joined (length vs) t ys t vs ws → (v : ℕ) → v < n → getD ws v 0 ≡ greatest (column (both n s xs t ys) v)
+  joined-both e z f g =
+      both-joined z (subst (λ (k : ℕ). Joined k s xs s us vs) e (f .1)) (subst (λ (k : ℕ). Joined k t ys t vs ws) (f .0 ∙ e) (g .1))
+
+pub zeros-front : (n k v : ℕ) → getD (take n (replicate {A = ℕ} k 0)) v 0 ≡ 0
+zeros-front zero k v = refl
+zeros-front (suc n) zero v = refl
+zeros-front (suc n) (suc k) zero = refl
+zeros-front (suc n) (suc k) (suc v) = zeros-front n k v
+
+pub joined-zero : (n s : ℕ) (cells us vs : List ℕ) → Joined n s cells s us vs → (i j : ℕ) → i < s → j < n → getD vs j 0 ≡ 0 → getD cells (i * n + j) 0 ≡ 0
+unfolding Joined
+joined-zero n s cells us vs f i j h l z =
+    sym (column-listed n s cells j i l h)
+    ∙ greatest-none (column (listed n s cells) j) i (omega (arith, f j l, ap greatest (whole n s cells j)))

@@ -1,0 +1,131 @@
+// What a list has of each of two things, by which the asked sizes grow: different pairs of a variable and a nonzero exponent, and the degree of
+// the lcm. Two lists are taken as one: s monomials in the cells xs and, behind them, t in ys.
+use crate::columns::greater;
+use crate::columns::join_all;
+use crate::minimal::less;
+ghost use mathlib.Core.Bool.{cond};
+ghost use mathlib.Core.Path.{_≡_};
+ghost use Prim.Native.Nat.{ℕ, _+_, _*_, _/_, _%_, _<_, _≤_};
+ghost use lib.ListN.{length, getD, drop};
+ghost use Rattle.laws.specs.Ideal.{listed};
+ghost use Rattle.laws.specs.Room.{coefficientsAsked, column, distinct as distinctOf, holds, pairs as pairsOf};
+ghost use Rattle.laws.proofs.Asked.{Lists, both, greatest};
+
+// Different pairs, and the degree of the lcm.
+pub(crate) struct Extent {
+    pub(crate) pairs: usize,
+    pub(crate) degree: usize,
+}
+
+// The greatest exponent in the cells from number `from` on that have its variable, or x, if it is one of them.
+fn later(n: usize, s: usize, xs: &[u16], t: usize, ys: &[u16], from: usize, x: u16) -> u16
+    requires { ⌜ Lists n s (now xs) t (now ys) × (0 < n) ⌝ }
+    ensures { λ r. ⌜ r ≡ cond (holds x (drop (from / n) (column (both n s (now (xs .entry)) t (now (ys .entry))) (from % n)))) x (greatest (drop (from / n) (column (both n s (now (xs .entry)) t (now (ys .entry))) (from % n)))) ⌝ }
+{
+    let a = s * n;
+    let end = a + t * n;
+    let mut best: u16 = 0;
+    let mut k = from;
+    while k < end {
+        let y = if k < a { xs[k] } else { ys[k - a] };
+        if x == y {
+            return x;
+        }
+        best = greater(best, y);
+        k += n;
+    }
+    best
+}
+
+// What the monomials in xs add to those in ys.
+fn added(n: usize, s: usize, xs: &[u16], t: usize, ys: &[u16]) -> Extent
+    requires { ⌜ Lists n s (now xs) t (now ys) ⌝ }
+    ensures { λ r. ⌜ (r .pairs + pairsOf n (listed n t (now (ys .entry))) ≡ pairsOf n (both n s (now (xs .entry)) t (now (ys .entry)))) × (r .pairs ≤ 4096 * 4096) ⌝ }
+    ensures { λ r. ⌜ (r .degree + coefficientsAsked (listed n t (now (ys .entry))) ≡ coefficientsAsked (both n s (now (xs .entry)) t (now (ys .entry)))) × (r .degree ≤ 4096 * 4096 * 65535) ⌝ }
+{
+    let end = s * n;
+    let mut pairs: usize = 0;
+    let mut degree: usize = 0;
+    let mut k: usize = 0;
+    while k < end {
+        let x = xs[k];
+        if x != 0 {
+            let y = later(n, s, xs, t, ys, k + n, x);
+            if x != y {
+                pairs += 1;
+                degree += less(x, y) as usize;
+            }
+        }
+        k += 1;
+    }
+    Extent { pairs, degree }
+}
+
+// Both lists, cell by cell.
+fn by_cells(n: usize, s: usize, xs: &[u16], t: usize, ys: &[u16]) -> Extent
+    requires { ⌜ Lists n s (now xs) t (now ys) ⌝ }
+    ensures { λ r. ⌜ (r .pairs ≡ pairsOf n (both n s (now (xs .entry)) t (now (ys .entry)))) × (r .degree + 1 ≡ coefficientsAsked (both n s (now (xs .entry)) t (now (ys .entry)))) × (r .degree ≤ 8192 * 4096 * 65535) ⌝ }
+{
+    let first = added(n, s, xs, t, ys);
+    let second = added(n, t, ys, 0, ys);
+    Extent {
+        pairs: first.pairs + second.pairs,
+        degree: first.degree + second.degree,
+    }
+}
+
+// How many different exponents other than 0 variable v has.
+fn distinct(n: usize, s: usize, xs: &[u16], t: usize, ys: &[u16], v: usize) -> usize
+    requires { ⌜ Lists n s (now xs) t (now ys) × (v < n) ⌝ }
+    ensures { λ r. ⌜ r ≡ distinctOf (column (both n s (now (xs .entry)) t (now (ys .entry))) v) ⌝ }
+{
+    let a = s * n;
+    let end = a + t * n;
+    let mut count: usize = 0;
+    let mut k = v;
+    while k < end {
+        let x = if k < a { xs[k] } else { ys[k - a] };
+        if x != 0 {
+            if x != later(n, s, xs, t, ys, k + n, x) {
+                count += 1;
+            }
+        }
+        k += n;
+    }
+    count
+}
+
+// Both lists, variable by variable: a greatest exponent of at most 1 is also how many different ones there are. us is zeros.
+fn by_columns(n: usize, s: usize, xs: &[u16], t: usize, ys: &[u16], us: &mut [u16]) -> Extent
+    requires { ⌜ Lists n s (now xs) t (now ys) × (length (now us) ≡ n) × ((v : ℕ) → getD (now us) v 0 ≡ 0) ⌝ }
+    ensures { λ r. ⌜ (r .pairs ≡ pairsOf n (both n s (now (xs .entry)) t (now (ys .entry)))) × (r .degree + 1 ≡ coefficientsAsked (both n s (now (xs .entry)) t (now (ys .entry)))) × (r .degree ≤ 8192 * 4096 * 65535) ⌝ }
+{
+    join_all(us, s, xs);
+    join_all(us, t, ys);
+    let mut pairs: usize = 0;
+    let mut degree: usize = 0;
+    let mut v: usize = 0;
+    while v < n {
+        let u = us[v];
+        degree += u as usize;
+        pairs += if u > 1 {
+            distinct(n, s, xs, t, ys, v)
+        } else {
+            u as usize
+        };
+        v += 1;
+    }
+    Extent { pairs, degree }
+}
+
+// Both lists. In few variables a look at each cell is shorter than the greatest exponents beforehand.
+pub(crate) fn extent_of(n: usize, s: usize, xs: &[u16], t: usize, ys: &[u16]) -> Extent
+    requires { ⌜ Lists n s (now xs) t (now ys) × (n ≤ 255) ⌝ }
+    ensures { λ r. ⌜ (r .pairs ≡ pairsOf n (both n s (now (xs .entry)) t (now (ys .entry)))) × (r .degree + 1 ≡ coefficientsAsked (both n s (now (xs .entry)) t (now (ys .entry)))) × (r .degree ≤ 8192 * 4096 * 65535) ⌝ }
+{
+    if n <= 32 {
+        return by_cells(n, s, xs, t, ys);
+    }
+    let mut us = [0u16; 255];
+    by_columns(n, s, xs, t, ys, &mut us[..n])
+}
