@@ -1,11 +1,13 @@
 -- The greatest exponent of each variable, monomial by monomial.
 --   Joined n s cells i us vs  == in vs stands for each of n variables the greatest of its first i exponents in the s monomials, or what us has
+--   Greatest n L us           == us has for each of n variables its greatest exponent in L
 -- In this file:
 --   joined-none, joined-more  no monomial, and one more
 --   joined-both               two lists, one after the other: the greatest of both
 --   joined-zero               where it is 0, every monomial has 0
 --   zeros-front               a part of a list of zeros
---   held-most, greatest-held  what stands in a list is at most its greatest, and that stands in it; greatest-none: where it is 0, all are
+--   held-most, greatest-held  what stands in a list is at most its greatest, and that stands in it
+--   distinct-at, degree-greatest, pairs-greatest   the different exponents of a variable, the degree of the lcm and e by these
 --   few-distinct              a greatest of at most 1 is how many different ones other than 0 there are
 use mathlib.Core.Path.{_≡_, refl, sym, ap, subst, _∙_}
 use mathlib.Core.Bool.{Bool, true, false, _||_, cond, false≢true}
@@ -18,8 +20,11 @@ use lib.ListN.{length, getD, take, replicate}
 use lib.Seq.{take-all}
 use borrow.Author.Tests.{eqb-true, eqb-false}
 use Rattle.laws.specs.Ideal.{listed}
-use Rattle.laws.specs.Room.{holds, distinct, column}
-use Rattle.laws.proofs.Asked.{both, column-append, column-count, column-listed, greatest}
+use Rattle.laws.specs.Monomial.{degree, exponent}
+use Rattle.laws.specs.Room.{holds, distinct, column, pairs}
+use Rattle.laws.specs.Sums.{sumBelow}
+use Rattle.laws.proofs.Asked.{both, column-append, column-count, column-listed, greatest, sumBelow-ext}
+use Rattle.laws.proofs.Dimension.{degree-sum}
 use Rattle.laws.proofs.Ideal.{listed-count}
 use Rattle.laws.proofs.Rows.{at, at-cell, Wrote}
 
@@ -54,10 +59,10 @@ few-distinct (x ∷ zs) h = go (eqb x 0) refl (holds x zs) refl (few-distinct zs
     go false e true f i = omega (arith, held-most x zs f)
     go false e false f i = omega (arith, eqb-false x 0 e, none (greatest zs) refl (eqb-false x 0 e) f)
 
-pub greatest-none : (zs : List ℕ) (i : ℕ) → greatest zs ≡ 0 → getD zs i 0 ≡ 0
-greatest-none [] i h = refl
-greatest-none (x ∷ zs) zero h = omega arith
-greatest-none (x ∷ zs) (suc i) h = greatest-none zs i (omega arith)
+greatest-most : (zs : List ℕ) (i : ℕ) → getD zs i 0 ≤ greatest zs
+greatest-most [] i = omega arith
+greatest-most (x ∷ zs) zero = omega arith
+greatest-most (x ∷ zs) (suc i) = omega (arith, greatest-most zs i)
 
 greatest-append : (xs ys : List ℕ) → greatest (xs ++ ys) ≡ max (greatest xs) (greatest ys)
 greatest-append [] ys = omega arith
@@ -92,15 +97,37 @@ joined-more n s k cells us vs ws m h e w g j l =
 whole : (n s : ℕ) (cells : List ℕ) (v : ℕ) → take s (column (listed n s cells) v) ≡ column (listed n s cells) v
 whole n s cells v = take-all s (column (listed n s cells) v) (omega (arith, column-count (listed n s cells) v, listed-count n s cells))
 
+-- the greatest of each variable of a list
+
+pub record Greatest (n : ℕ) (L : List (List ℕ)) (us : List ℕ) : Type 0 where
+  pub len : length us ≡ n
+  pub each : (v : ℕ) → v < n → getD us v 0 ≡ greatest (column L v)
+
+module _ {n : ℕ} {L : List (List ℕ)} {us : List ℕ} (g : Greatest n L us) where
+  pub distinct-at : (v : ℕ) → v < n → getD us v 0 ≤ 1 → distinct (column L v) ≡ getD us v 0
+  distinct-at v h r = few-distinct (column L v) (omega (arith, g .each v h)) ∙ sym (g .each v h)
+
+  -- its degree is that of the lcm
+  pub degree-greatest : degree us ≡ sumBelow n (λ v. greatest (column L v))
+  degree-greatest = degree-sum n us (g .len) ∙ sumBelow-ext n (exponent us) (λ v. greatest (column L v)) (g .each)
+
+  pub pairs-greatest : greatest us ≤ 1 → degree us ≡ pairs n L
+  pairs-greatest r =
+      degree-sum n us (g .len)
+      ∙ sumBelow-ext n (exponent us) (λ v. distinct (column L v)) (λ v h. sym (distinct-at v h (omega (arith, greatest-most us v))))
+
 module _ (n s : ℕ) (xs : List ℕ) (t : ℕ) (ys us vs ws : List ℕ) where
   both-joined : ((j : ℕ) → getD us j 0 ≡ 0) → Joined n s xs s us vs → Joined n t ys t vs ws → (v : ℕ) → v < n → getD ws v 0 ≡ greatest (column (both n s xs t ys) v)
   unfolding Joined
   both-joined z f g v h =
       omega (arith, g v h, f v h, z v, ap greatest (whole n s xs v), ap greatest (whole n t ys v), ap greatest (column-append (listed n s xs) (listed n t ys) v), greatest-append (column (listed n s xs) v) (column (listed n t ys) v))
 
-  pub joined-both : length us ≡ n → ((j : ℕ) → getD us j 0 ≡ 0) → (length vs ≡ length us) × Joined (length us) s xs s us vs → (length ws ≡ length vs) × Joined (length vs) t ys t vs ws → (v : ℕ) → v < n → getD ws v 0 ≡ greatest (column (both n s xs t ys) v)
+  pub joined-both : length us ≡ n → ((j : ℕ) → getD us j 0 ≡ 0) → (length vs ≡ length us) × Joined (length us) s xs s us vs → (length ws ≡ length vs) × Joined (length vs) t ys t vs ws → Greatest n (both n s xs t ys) ws
   joined-both e z f g =
-      both-joined z (subst (λ (k : ℕ). Joined k s xs s us vs) e (f .1)) (subst (λ (k : ℕ). Joined k t ys t vs ws) (f .0 ∙ e) (g .1))
+      record {
+        len = g .0 ∙ f .0 ∙ e;
+        each = both-joined z (subst (λ (k : ℕ). Joined k s xs s us vs) e (f .1)) (subst (λ (k : ℕ). Joined k t ys t vs ws) (f .0 ∙ e) (g .1));
+      }
 
 pub zeros-front : (n k v : ℕ) → getD (take n (replicate {A = ℕ} k 0)) v 0 ≡ 0
 zeros-front zero k v = refl
@@ -112,4 +139,4 @@ pub joined-zero : (n s : ℕ) (cells us vs : List ℕ) → Joined n s cells s us
 unfolding Joined
 joined-zero n s cells us vs f i j h l z =
     sym (column-listed n s cells j i l h)
-    ∙ greatest-none (column (listed n s cells) j) i (omega (arith, f j l, ap greatest (whole n s cells j)))
+    ∙ omega (arith, greatest-most (column (listed n s cells) j) i, f j l, ap greatest (whole n s cells j))

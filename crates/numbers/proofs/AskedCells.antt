@@ -26,10 +26,11 @@ use mir.Syntax.{w64}
 use mir.Val.{Fits}
 use borrow.Author.Tests.{eq-eqb, ne-eqb}
 use Rattle.laws.specs.Ideal.{listed}
-use Rattle.laws.specs.Room.{cellsAsked, column, coefficientsAsked, distinct, holds, pairs, pairs as pairsOf}
+use Rattle.laws.specs.Monomial.{degree}
+use Rattle.laws.specs.Room.{cellsAsked, column, coefficientsAsked, distinct, holds, pairs}
 use Rattle.laws.specs.Sums.{sumBelow}
 use Rattle.laws.proofs.Asked.{Lists, asked-is, asked-small, at-first, at-second, both, both-within, cells-small, coefficients-are, columns, distinct-end, distinct-most, distinct-next, greatest, greatest-end, greatest-next, holds-end, holds-next, lcm-degree, pairs-small, sumBelow-ext, sumBelow-next}
-use Rattle.laws.proofs.Columns.{few-distinct, greatest-held, held-most}
+use Rattle.laws.proofs.Columns.{Greatest, degree-greatest, distinct-at, greatest-held, held-most}
 use Rattle.laws.proofs.Ideal.{listed-count, listed-within}
 
 abbrev pub from : ℕ → List (List ℕ) → ℕ → List ℕ
@@ -227,51 +228,45 @@ module _ {n s t : ℕ} {xs ys : List ℕ} (l : Lists n s xs t ys) (z : 0 < n) (v
 
 -- the loop over the variables, whose greatest exponents are known
 
-abbrev pub Summed : ℕ → List (List ℕ) → ℕ → ℕ → ℕ → Type 0
-Summed n L pairs degree v = (v ≤ n) × (pairs ≡ sumBelow v (λ w. distinct (column L w))) × (degree ≡ sumBelow v (λ w. greatest (column L w))) × (pairs ≤ v * 4096) × (degree ≤ v * 65535)
+abbrev pub Summed : ℕ → List (List ℕ) → ℕ → ℕ → Type 0
+Summed n L sum v = (v ≤ n) × (sum ≡ sumBelow v (λ w. distinct (column L w))) × (sum ≤ v * 4096)
 
-pub summed-none : (n : ℕ) (L : List (List ℕ)) → Summed n L 0 0 0
-summed-none n L = (omega arith, refl, refl, omega arith, omega arith)
+pub summed-none : (n : ℕ) (L : List (List ℕ)) → Summed n L 0 0
+summed-none n L = (omega arith, refl, omega arith)
 
-module _ {n s t : ℕ} {xs ys : List ℕ} (l : Lists n s xs t ys) (us : List ℕ) (e : length us ≡ n) (v : ℕ) where
-  pub column-in : v < n → v < length us
-  column-in g = omega arith
+module _ {n s t : ℕ} {xs ys : List ℕ} (l : Lists n s xs t ys) (v : ℕ) (g : v < n) where
+  pub column-bytes : Fits w64 (v * 2)
+  column-bytes = omega (arith, l .width)
 
-  pub column-bytes : v < n → Fits w64 (v * 2)
-  column-bytes g = omega (arith, l .width)
+  pub column-next : Fits w64 (v + 1)
+  column-next = omega (arith, l .width)
 
-  pub column-next : v < n → Fits w64 (v + 1)
-  column-next g = omega (arith, l .width)
+  module _ {us : List ℕ} (k : Greatest n (both n s xs t ys) us) where
+    pub column-in : v < length us
+    column-in = omega (arith, k .len)
 
-  pub degree-more : (d u : ℕ) → v < n → d ≤ v * 65535 → u < 65536 → Fits w64 (d + u)
-  degree-more d u g h r = omega (arith, l .width)
+    pub column-pairs : (p : ℕ) → ((1 < getD us v 0) × (p ≡ distinct (column (both n s xs t ys) v))) ⊎ ((getD us v 0 ≤ 1) × (p ≡ getD us v 0)) → p ≡ distinct (column (both n s xs t ys) v)
+    column-pairs p (inl w) = w .1
+    column-pairs p (inr w) = w .1 ∙ sym (distinct-at k v g (w .0))
 
-  module _ (k : (w : ℕ) → w < n → getD us w 0 ≡ greatest (column (both n s xs t ys) w)) (pairs degree : ℕ) (q : Summed n (both n s xs t ys) pairs degree v) where
-    module _ (g : v < n) (p : ℕ) (c : ((1 < getD us v 0) × (p ≡ distinct (column (both n s xs t ys) v))) ⊎ ((getD us v 0 ≤ 1) × (p ≡ getD us v 0))) where
-      new : ((1 < getD us v 0) × (p ≡ distinct (column (both n s xs t ys) v))) ⊎ ((getD us v 0 ≤ 1) × (p ≡ getD us v 0)) → p ≡ distinct (column (both n s xs t ys) v)
-      new (inl w) = w .1
-      new (inr w) =
-          omega (arith, w .0, w .1, k v g, few-distinct (column (both n s xs t ys) v) (omega (arith, w .0, k v g)))
+  module _ (sum : ℕ) (q : Summed n (both n s xs t ys) sum v) (p : ℕ) (e : p ≡ distinct (column (both n s xs t ys) v)) where
+    few : p ≤ 4096
+    few = omega (arith, distinct-most (column (both n s xs t ys) v), columns l v, l .count)
 
-      few : p ≤ 4096
-      few = omega (arith, new c, distinct-most (column (both n s xs t ys) v), columns l v, l .count)
+    pub pairs-more : Fits w64 (sum + p)
+    pairs-more = omega (arith, few, q .2, l .width)
 
-      pub pairs-more : Fits w64 (pairs + p)
-      pairs-more = omega (arith, few, q .3, l .width)
+    pub summed-next : Summed n (both n s xs t ys) (sum + p) (v + 1)
+    summed-next = (omega arith, sumBelow-next v sum p (λ w. distinct (column (both n s xs t ys) w)) e (q .1), omega (arith, few, q .2))
 
-      pub summed-next : getD us v 0 < 65536 → Summed n (both n s xs t ys) (pairs + p) (degree + getD us v 0) (v + 1)
-      summed-next r = (
-        omega arith,
-        sumBelow-next v pairs p (λ w. distinct (column (both n s xs t ys) w)) (new c) (q .1),
-        sumBelow-next v degree (getD us v 0) (λ w. greatest (column (both n s xs t ys) w)) (k v g) (q .2),
-        omega (arith, few, q .3),
-        omega (arith, q .4),
-      )
+pub summed-all : (n : ℕ) (L : List (List ℕ)) (sum v : ℕ) → Summed n L sum v → n ≤ v → sum ≡ pairs n L
+summed-all n L sum v q g =
+    let f : v ≡ n = omega (arith, q .0) in
+    q .1 ∙ ap (λ (w : ℕ). sumBelow w (λ u. distinct (column L u))) f
 
-    pub summed-all : n ≤ v → (pairs ≡ pairsOf n (both n s xs t ys)) × (degree + 1 ≡ coefficientsAsked (both n s xs t ys)) × (degree ≤ 8192 * 4096 * 65535)
-    summed-all g =
-        let f : v ≡ n = omega (arith, q .0) in
-        (q .1 ∙ ap (λ (w : ℕ). sumBelow w (λ u. distinct (column (both n s xs t ys) u))) f, ap (λ (w : ℕ). w + 1) (q .2 ∙ ap (λ (w : ℕ). sumBelow w (λ u. greatest (column (both n s xs t ys) u))) f) ∙ coefficients-are l, omega (arith, q .4, l .width))
+-- the degree of the greatest exponents
+pub degree-known : {n s t : ℕ} {xs ys us : List ℕ} → Lists n s xs t ys → Greatest n (both n s xs t ys) us → (d : ℕ) → (d ≡ degree us) × (d ≤ 4294901760) → (d + 1 ≡ coefficientsAsked (both n s xs t ys)) × (d ≤ 8192 * 4096 * 65535)
+degree-known l k d e = (ap (λ (q : ℕ). q + 1) (e .0 ∙ degree-greatest k) ∙ coefficients-are l, omega (arith, e .1))
 
 -- sums over the cells, variable by variable
 

@@ -1,8 +1,9 @@
-// The greatest exponent of each variable.
+// The greatest of exponents: of all in a list of cells, or for each variable.
 use crate::rows::row;
 ghost use mathlib.Core.Path.{_≡_};
 ghost use Prim.Native.Nat.{_*_, _≤_, max};
 ghost use lib.ListN.{length, getD};
+ghost use Rattle.laws.proofs.Asked.{greatest};
 ghost use Rattle.laws.proofs.Columns.{Joined};
 ghost use Rattle.laws.proofs.Rows.{Wrote};
 
@@ -11,6 +12,19 @@ pub(crate) fn greater(x: u16, y: u16) -> u16
     ensures { λ r. ⌜ r ≡ max x y ⌝ }
 {
     if x < y { y } else { x }
+}
+
+// The greatest exponent in the cells.
+pub(crate) fn greatest_of(cells: &[u16]) -> u16
+    ensures { λ r. ⌜ r ≡ greatest (now (cells .entry)) ⌝ }
+{
+    let mut best: u16 = 0;
+    let mut i: usize = 0;
+    while i < cells.len() {
+        best = greater(best, cells[i]);
+        i += 1;
+    }
+    best
 }
 
 // The greater exponent of the two, for each variable.

@@ -1,7 +1,9 @@
 // What a list has of each of two things, by which the asked sizes grow: different pairs of a variable and a nonzero exponent, and the degree of
 // the lcm. Two lists are taken as one: s monomials in the cells xs and, behind them, t in ys.
 use crate::columns::greater;
+use crate::columns::greatest_of;
 use crate::columns::join_all;
+use crate::leaf::degree;
 use crate::minimal::less;
 ghost use mathlib.Core.Bool.{cond};
 ghost use mathlib.Core.Path.{_≡_};
@@ -10,6 +12,7 @@ ghost use lib.ListN.{length, getD, drop};
 ghost use Rattle.laws.specs.Ideal.{listed};
 ghost use Rattle.laws.specs.Room.{coefficientsAsked, column, distinct as distinctOf, holds, pairs as pairsOf};
 ghost use Rattle.laws.proofs.Asked.{Lists, both, greatest};
+ghost use Rattle.laws.proofs.Columns.{Greatest};
 
 // Different pairs, and the degree of the lcm.
 pub(crate) struct Extent {
@@ -95,19 +98,15 @@ fn distinct(n: usize, s: usize, xs: &[u16], t: usize, ys: &[u16], v: usize) -> u
     count
 }
 
-// Both lists, variable by variable: a greatest exponent of at most 1 is also how many different ones there are. us is zeros.
-fn by_columns(n: usize, s: usize, xs: &[u16], t: usize, ys: &[u16], us: &mut [u16]) -> Extent
-    requires { ⌜ Lists n s (now xs) t (now ys) × (length (now us) ≡ n) × ((v : ℕ) → getD (now us) v 0 ≡ 0) ⌝ }
-    ensures { λ r. ⌜ (r .pairs ≡ pairsOf n (both n s (now (xs .entry)) t (now (ys .entry)))) × (r .degree + 1 ≡ coefficientsAsked (both n s (now (xs .entry)) t (now (ys .entry)))) × (r .degree ≤ 8192 * 4096 * 65535) ⌝ }
+// The different pairs of both lists, variable by variable, whose greatest exponents us has.
+fn pairs_by_columns(n: usize, s: usize, xs: &[u16], t: usize, ys: &[u16], us: &[u16]) -> usize
+    requires { ⌜ Lists n s (now xs) t (now ys) × Greatest n (both n s (now xs) t (now ys)) (now us) ⌝ }
+    ensures { λ r. ⌜ r ≡ pairsOf n (both n s (now (xs .entry)) t (now (ys .entry))) ⌝ }
 {
-    join_all(us, s, xs);
-    join_all(us, t, ys);
     let mut pairs: usize = 0;
-    let mut degree: usize = 0;
     let mut v: usize = 0;
     while v < n {
         let u = us[v];
-        degree += u as usize;
         pairs += if u > 1 {
             distinct(n, s, xs, t, ys, v)
         } else {
@@ -115,6 +114,22 @@ fn by_columns(n: usize, s: usize, xs: &[u16], t: usize, ys: &[u16], us: &mut [u1
         };
         v += 1;
     }
+    pairs
+}
+
+// Both lists, by way of their lcm, in us, which holds zeros. An lcm without squares has as many pairs as its degree says.
+fn by_columns(n: usize, s: usize, xs: &[u16], t: usize, ys: &[u16], us: &mut [u16]) -> Extent
+    requires { ⌜ Lists n s (now xs) t (now ys) × (length (now us) ≡ n) × ((v : ℕ) → getD (now us) v 0 ≡ 0) ⌝ }
+    ensures { λ r. ⌜ (r .pairs ≡ pairsOf n (both n s (now (xs .entry)) t (now (ys .entry)))) × (r .degree + 1 ≡ coefficientsAsked (both n s (now (xs .entry)) t (now (ys .entry)))) × (r .degree ≤ 8192 * 4096 * 65535) ⌝ }
+{
+    join_all(us, s, xs);
+    join_all(us, t, ys);
+    let degree = degree(us);
+    let pairs = if greatest_of(us) > 1 {
+        pairs_by_columns(n, s, xs, t, ys, us)
+    } else {
+        degree
+    };
     Extent { pairs, degree }
 }
 

@@ -1,5 +1,5 @@
 // The masks of a whole list, by which most divisions are ruled out without a look at the exponents: the first minimal list.
-use crate::columns::greater;
+use crate::columns::greatest_of;
 use crate::minimal::minimalize;
 use crate::rows::row;
 use monomials::divmask::MaskOutcome;
@@ -12,19 +12,6 @@ ghost use Rattle.laws.specs.Ideal.{listed};
 ghost use Rattle.laws.specs.Mask.{mask as maskOf};
 ghost use Rattle.laws.proofs.Asked.{greatest};
 ghost use Rattle.laws.proofs.Pass.{Thinned};
-
-// The greatest exponent in the cells.
-fn greatest_of(cells: &[u16]) -> u16
-    ensures { λ r. ⌜ r ≡ greatest (now (cells .entry)) ⌝ }
-{
-    let mut best: u16 = 0;
-    let mut i: usize = 0;
-    while i < cells.len() {
-        best = greater(best, cells[i]);
-        i += 1;
-    }
-    best
-}
 
 // The two words of the mask of a monomial, with thresholds spread up to `most`.
 fn two_words(n: usize, most: u16, row: &[u16]) -> [u64; 2]

@@ -4,8 +4,8 @@ use mathlib.Core.Path.{_≡_}
 use native.Mathlib.Omega.{arith}
 use Rattle.laws.proofs.Asked.{greatest, greatest-end, greatest-next}
 use Rattle.numbers.proofs.Steps.{next-fits-in, next-less, next-within, place-bytes, zero-least}
-use Rattle.numbers.proofs.masks.greatest_of.Statement.{statement}
-use Rattle.numbers.proofs.masks.greatest_of.Tie as tie
+use Rattle.numbers.proofs.columns.greatest_of.Statement.{statement}
+use Rattle.numbers.proofs.columns.greatest_of.Tie as tie
 
 abbrev Inv-loop : tie.InvT-loop
 Inv-loop cells best₀ i₀ best i = (i ≤ length cells) × (max best (greatest (drop i cells)) ≡ greatest cells)
