@@ -6,9 +6,10 @@
 --   place-told, place-given, part-is      the answer, and the part that is handed back
 --   copy-none, copy-short, copy-passes    which check of a copy holds
 --   copy-refused, copy-done               its answer and its cells
+--   read-refused, read-done               the same of a copy into cells that are enough
 -- Assumes nothing.
 use mathlib.Core.Path.{_≡_, sym, ap, ap₂, _∙_}
-use mathlib.Core.Bool.{Bool, true, false, not, cond}
+use mathlib.Core.Bool.{Bool, true, false, not, cond, false≢true}
 use mathlib.Core.List.{List, [], _∷_, _++_}
 use mathlib.Core.Option.{Option, none, some}
 use Prim.Native.Nat.{ℕ, _+_, _*_, _-_, _≤_, _<_}
@@ -146,3 +147,11 @@ module _ (C : ℕ) (rec cells : List ℕ) where
     ap₂ (shapeAnswer none) p q ∙ ap (λ (r : Option Refusal). shapeAnswer r (widthIn rec) (countIn rec)) (sym e),
     f ∙ ap (λ (r : Option Refusal). after r (exponentsIn rec ++ drop (countIn rec * widthIn rec) cells) cells) (sym e),
   )
+
+  pub read-refused : (d : List ℕ) (a : CopyAnswer) → a ≡ shapeAnswer (some Record) 0 0 → isRecord C rec ≡ false
+      → (a ≡ copyAnswer C rec cells) × (isRecord C rec ≡ true → d ≡ copyCells C rec cells)
+  read-refused d a p e = (copy-refused Record a p (copy-none C rec cells e) .0, λ t. absurd (false≢true (sym e ∙ t)))
+
+  pub read-done : (n m : ℕ) (d : List ℕ) → isRecord C rec ≡ true → countIn rec * widthIn rec ≤ length cells → n ≡ widthIn rec → m ≡ countIn rec → d ≡ exponentsIn rec ++ drop (countIn rec * widthIn rec) cells
+      → (shapeAnswer none n m ≡ copyAnswer C rec cells) × (isRecord C rec ≡ true → d ≡ copyCells C rec cells)
+  read-done n m d e h p q f = let (a, b) = copy-done n m d (copy-passes C rec cells e h) p q f in (a, λ _. b)

@@ -1,6 +1,6 @@
 -- The steps behind the host call, in the words of its contract.
 --   first-passes, both-pass        where nothing is refused no check holds
---   larger-rooms                   an answer that is a dimension is the same in rooms that are as large or larger
+--   larger-rooms, own-rooms        an answer that is a dimension is the same in rooms as large or larger, and so in the call's own
 --   dimension-small                a dimension that is not refused is below 2^127, and its top degree at most M
 --   top-fits                       so the top degree of a record's answer fits four bytes
 --   short-is                       what the contract says where the output has no room for an answer record
@@ -12,7 +12,6 @@
 --   record-dimension, no-record-dimension   the dimension of what was copied is the record's answer
 -- Assumes nothing.
 use mathlib.Core.Path.{_≡_, refl, sym, ap, _∙_}
-use mathlib.Core.Logic.{_⊎_, inl, inr}
 use mathlib.Core.Bool.{Bool, true, false, not, _||_, cond, false≢true}
 use mathlib.Core.List.{List, [], _∷_, _++_}
 use mathlib.Core.Option.{Option, none, some}
@@ -20,8 +19,8 @@ use Prim.Native.Nat.{ℕ, _+_, _*_, _^_, _≤_, _<_}
 use native.Mathlib.Nat.{lt-of-le-of-lt, lt-of-lt-of-le, mod-eq-of-lt}
 use native.Mathlib.Omega.{arith}
 use lib.Dec.{leb, ltb, eqb, lit≤, lit<}
-use lib.IntN.{ℤ}
-use lib.ListN.{length, drop}
+use lib.IntN.{ℤ, pos}
+use lib.ListN.{length, drop, replicate, length-replicate}
 use lib.Pow.{areBytes}
 use borrow.Author.Tests.{lt-ltb, le-ltb, leb-false, ltb-false, eqb-true, not-false}
 use Rattle.laws.specs.Dimension.{finite, degreeBound, powersProduct, dimension, topDegree}
@@ -45,6 +44,7 @@ use Rattle.records.specs.Answer.{answerOf, answerBytes}
 use Rattle.records.specs.Ideal.{checkAnswer, shapeAnswer, notRecord, copyChecks, copyAnswer, copyCells}
 use Rattle.records.specs.Host.{ownCells, ownCoefficients, ownWords, recordChecks, hostChecks, status, hostAnswer, hostNumber, hostBytes}
 use Rattle.records.specs.HostParts.{recordAnswer, topOf, TopFits, outcomeOf, toldAs, bytesOf, toldBytes}
+use Rattle.records.specs.Rows.{Ample}
 use Rattle.records.specs.declared.ideal.CheckOutcome.{CheckOutcome}
 use Rattle.records.specs.declared.ideal.CheckAnswer.{CheckAnswer}
 use Rattle.records.specs.declared.ideal.Shape.{Shape}
@@ -52,6 +52,7 @@ use Rattle.records.specs.declared.ideal.CopyOutcome.{CopyOutcome}
 use Rattle.records.specs.declared.ideal.CopyAnswer.{CopyAnswer}
 use Rattle.records.proofs.Answers.{copy-none, copy-passes, a-record, no-record}
 use Rattle.records.proofs.Cells.{area}
+use Rattle.records.proofs.Standing.{record-header, header-fits}
 
 -- checks that pass
 
@@ -109,8 +110,18 @@ module _ (room room' : List ℕ) (p p' : List ℤ) (sums sums' : List ℕ) (h : 
           let (x, y) = both-pass (boundChecks M n (listed n s cells)) (roomChecks n (listed n s cells) room p p sums) b in
           still-pass (boundChecks M n (listed n s cells)) (roomChecks n (listed n s cells) room' p' p' sums') x (rooms-pass n (listed n s cells) y)
 
-  pub larger-rooms : (W C M n s : ℕ) (cells : List ℕ) (a : DimensionAnswer) (d : DimensionValue) → a ≡ dimensionAnswer W C M n s cells room p p sums → a .outcome ≡ DimensionOutcome.Value d → record { outcome = DimensionOutcome.Value d } ≡ dimensionAnswer W C M n s cells room' p' p' sums'
+  larger-rooms : (W C M n s : ℕ) (cells : List ℕ) (a : DimensionAnswer) (d : DimensionValue) → a ≡ dimensionAnswer W C M n s cells room p p sums → a .outcome ≡ DimensionOutcome.Value d → record { outcome = DimensionOutcome.Value d } ≡ dimensionAnswer W C M n s cells room' p' p' sums'
   larger-rooms W C M n s cells = value-of (refusal (dimensionChecks W C M n s cells room p p sums)) (refusal (dimensionChecks W C M n s cells room' p' p' sums')) n (listed n s cells) (checks-pass W C M n s cells)
+
+-- the call's own rooms hold more than rooms of these sizes
+pub own-rooms : (k j i : ℕ) → k ≤ 16384 → j ≤ 4096 → i ≤ 4096 → (W C M n s : ℕ) (cells : List ℕ) (a : DimensionAnswer) (d : DimensionValue)
+    → a ≡ dimensionAnswer W C M n s cells (replicate k 0) (replicate j (pos 0)) (replicate j (pos 0)) (replicate i 0) → a .outcome ≡ DimensionOutcome.Value d
+    → record { outcome = DimensionOutcome.Value d } ≡ dimensionAnswer W C M n s cells ownCells ownCoefficients ownCoefficients ownWords
+own-rooms k j i h g f =
+    larger-rooms (replicate k 0) ownCells (replicate j (pos 0)) ownCoefficients (replicate i 0) ownWords
+    (rw (length-replicate {A = ℕ} k 0, length-replicate {A = ℕ} 16384 0) h)
+    (rw (length-replicate j (pos 0), length-replicate 4096 (pos 0)) g)
+    (rw (length-replicate {A = ℕ} i 0, length-replicate {A = ℕ} 4096 0) f)
 
 -- a dimension that is not refused
 
@@ -278,10 +289,9 @@ pub record-area : (rec : List ℕ) → areBytes rec ≡ true → isRecord 60 rec
 record-area rec h e =
     area (countIn rec) (widthIn rec) (record-tests 60 rec h .0 e .few) (omega (arith, byte-at rec 5 h))
 
--- and those of a record of so many bytes in these
-pub record-fits : (rec cells : List ℕ) → areBytes rec ≡ true → (15300 ≤ length cells) ⊎ (length rec ≤ 2 * length cells + 7) → isRecord 60 rec ≡ true → countIn rec * widthIn rec ≤ length cells
-record-fits rec cells h (inl l) e = omega (arith, record-area rec h e, l)
-record-fits rec cells h (inr l) e = omega (arith, record-tests 60 rec h .0 e .total, l)
+-- and in ample cells
+pub record-fits : (rec cells : List ℕ) → areBytes rec ≡ true → Ample rec cells → isRecord 60 rec ≡ true → countIn rec * widthIn rec ≤ length cells
+record-fits rec cells h a e = header-fits rec cells h a (record-header 60 rec h e)
 
 -- the dimension of what was copied
 

@@ -3,12 +3,13 @@
 --   stands-low, stands-divided, stands-next   the list from monomial i on, by that monomial
 --   header-short      bytes too short for a header have none that stands
 --   record-stands     bytes are a record exactly when their header and their list stand
---   record-list-stands, record-header-falls   the header first, then the list
+--   record-list-stands, record-header-falls, record-header   the header first, then the list
 --   header-few, header-total   what a header that stands says
+--   header-fits       as many exponents as it says have room in ample cells
 --   copied            the cells that were copied
 -- Assumes nothing.
 use mathlib.Core.Path.{_≡_, refl, sym, ap, ap₂, _∙_}
-use mathlib.Core.Logic.{_↔_}
+use mathlib.Core.Logic.{_↔_, inl, inr}
 use mathlib.Core.Bool.{Bool, true, false, not, _&&_}
 use mathlib.Core.List.{List, [], _∷_, _++_}
 use Prim.Native.Nat.{ℕ, _+_, _*_, _-_, _≤_, _<_, Ordering, Ordering·lt, Ordering·eq, Ordering·gt}
@@ -23,9 +24,9 @@ use Rattle.laws.specs.Order.{degrevlex}
 use Rattle.laws.specs.Record.{value, isRecord, exponentsIn, listIn, widthIn, countIn}
 use Rattle.laws.proofs.Monomial.{and-left, and-right, bool-ext}
 use Rattle.laws.proofs.Minimal.{Chain, Undivided}
-use Rattle.laws.proofs.Reading.{cellsIn-length, record-tests}
-use Rattle.records.specs.Rows.{row, isGreater, above, stands, headerStands}
-use Rattle.records.proofs.Cells.{listed-next}
+use Rattle.laws.proofs.Reading.{byte-at, cellsIn-length, record-tests}
+use Rattle.records.specs.Rows.{row, isGreater, above, stands, headerStands, Ample}
+use Rattle.records.proofs.Cells.{listed-next, area}
 
 greater-is : (o : Ordering) → isGreater o ≡ true → o ≡ Ordering·gt
 greater-is Ordering·lt h = cc
@@ -117,6 +118,9 @@ module _ (C : ℕ) (bytes : List ℕ) (h : areBytes bytes ≡ true) where
   pub record-header-falls : headerStands C bytes ≡ false → false ≡ isRecord C bytes
   record-header-falls e = sym (record-stands ∙ ap (λ (t : Bool). t && stands (listIn bytes)) e)
 
+  pub record-header : isRecord C bytes ≡ true → headerStands C bytes ≡ true
+  record-header e = and-left (headerStands C bytes) (stands (listIn bytes)) (record-holds e)
+
 -- what a header that stands says
 
 module _ (C : ℕ) (bytes : List ℕ) (h : headerStands C bytes ≡ true) where
@@ -133,6 +137,11 @@ module _ (C : ℕ) (bytes : List ℕ) (h : headerStands C bytes ≡ true) where
   header-total =
       eqb-true (length bytes) (7 + 2 * (countIn bytes * widthIn bytes))
       (and-right (leb (countIn bytes) C) (eqb (length bytes) (7 + 2 * (countIn bytes * widthIn bytes))) counted)
+
+pub header-fits : (rec cells : List ℕ) → areBytes rec ≡ true → Ample rec cells → headerStands 60 rec ≡ true → countIn rec * widthIn rec ≤ length cells
+header-fits rec cells b (inl l) h =
+    omega (arith, area (countIn rec) (widthIn rec) (header-few 60 rec h) (omega (arith, byte-at rec 5 b)), l)
+header-fits rec cells b (inr l) h = omega (arith, header-total 60 rec h, l)
 
 -- the cells that were copied, whatever stands behind them
 pub copied : (count : ℕ) (bytes d cells : List ℕ) → length bytes ≡ 7 + 2 * count → cells ≡ exponentsIn bytes ++ d → take (count - 0) (drop 0 cells) ≡ exponentsIn bytes

@@ -7,12 +7,14 @@
 --   above a L         == a is greater than the first of L by DegRevLex, if L has one
 --   stands L          == each member of L is greater than the next, and divided by no later one
 --   headerStands C bytes == version, length field, count and size of bytes are those of a record of at most C monomials
+--   Ample rec cells   == the cells have room for the exponents of every record, or of every one that is no longer than rec
 --   seatOf a K        == how many of K are greater than a, before the first that is not
 --   sameAt a K        == a is the first of K
 -- Assumes nothing.
 use mathlib.Core.Bool.{Bool, true, false, not, _&&_, cond}
 use mathlib.Core.List.{List, [], _∷_, map}
-use Prim.Native.Nat.{ℕ, suc, _+_, _*_, _-_, _<_, Ordering, Ordering·lt, Ordering·eq, Ordering·gt}
+use mathlib.Core.Logic.{_⊎_}
+use Prim.Native.Nat.{ℕ, suc, _+_, _*_, _-_, _≤_, _<_, Ordering, Ordering·lt, Ordering·eq, Ordering·gt}
 use lib.Dec.{leb, eqb}
 use lib.ListN.{length, getD, take, drop}
 use Rattle.laws.specs.Ideal.{multiple}
@@ -65,6 +67,9 @@ headerStands C bytes =
     && (eqb (value (take 4 (drop 1 bytes))) (length bytes - 5)
     && (leb (countIn bytes) C
     && eqb (length bytes) (7 + 2 * (countIn bytes * widthIn bytes))))
+
+abbrev pub Ample : List ℕ → List ℕ → Type 0
+Ample rec cells = (15300 ≤ length cells) ⊎ (length rec ≤ 2 * length cells + 7)
 
 abbrev pub seatOf : List ℕ → List (List ℕ) → ℕ
 seatOf a [] = 0

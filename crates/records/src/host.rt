@@ -5,8 +5,10 @@ use crate::answer::write_answer;
 use crate::ideal::CheckAnswer;
 use crate::ideal::CheckOutcome;
 use crate::ideal::CopyOutcome;
+use crate::ideal::FEW_CELLS;
 use crate::ideal::MAX_CELLS;
-use crate::ideal::copy_record;
+use crate::ideal::SHORT_RECORD;
+use crate::ideal::read_record;
 use monomials::refusal::MAX_COUNT;
 use monomials::refusal::MAX_WIDTH;
 use monomials::refusal::Refusal;
@@ -17,14 +19,14 @@ use numbers::dimension::quotient_dimension;
 use numbers::hf_at::MAX_DEGREE;
 use numbers::wide::Wide;
 ghost use mathlib.Core.Path.{_≡_};
-ghost use mathlib.Core.Logic.{_⊎_};
 ghost use mathlib.Core.List.{_++_};
-ghost use Prim.Native.Nat.{_+_, _*_, _≤_};
+ghost use Prim.Native.Nat.{_≤_};
 ghost use lib.IntN.{pos};
 ghost use lib.ListN.{length, drop, replicate};
 ghost use Rattle.numbers.specs.Dimension.{dimensionAnswer};
 ghost use Rattle.records.specs.Host.{ownCells, ownCoefficients, ownWords, hostAnswer, hostNumber, hostBytes};
 ghost use Rattle.records.specs.HostParts.{recordAnswer, TopFits, toldAs, toldBytes};
+ghost use Rattle.records.specs.Rows.{Ample};
 
 // The exponent cells of the call's own room.
 const CELL_ROOM: usize = 16384;
@@ -66,18 +68,18 @@ pub extern "C" fn purlthicket_dim(rec: &[u8], out: &mut [u8]) -> u8
 fn dimension_of(rec: &[u8]) -> DimensionAnswer
     ensures { λ r. do ⌜ r ≡ recordAnswer (← ⟦MAX_WIDTH⟧ .entry) (← ⟦MAX_COUNT⟧ .entry) (← ⟦MAX_DEGREE⟧ .entry) (now (rec .entry)) ⌝ }
 {
-    if rec.len() <= 519 {
+    if rec.len() <= SHORT_RECORD {
         return in_few_cells(rec);
     }
     in_all_cells(rec)
 }
 
-// The same for a record with at most 256 exponents.
+// The same for a short record.
 fn in_few_cells(rec: &[u8]) -> DimensionAnswer
-    requires { ⌜ length (now rec) ≤ 519 ⌝ }
+    requires { do ⌜ length (now rec) ≤ (← ⟦SHORT_RECORD⟧) ⌝ }
     ensures { λ r. do ⌜ r ≡ recordAnswer (← ⟦MAX_WIDTH⟧ .entry) (← ⟦MAX_COUNT⟧ .entry) (← ⟦MAX_DEGREE⟧ .entry) (now (rec .entry)) ⌝ }
 {
-    let mut cells = [0u16; 256];
+    let mut cells = [0u16; FEW_CELLS];
     dimension_in(rec, &mut cells)
 }
 
@@ -91,10 +93,10 @@ fn in_all_cells(rec: &[u8]) -> DimensionAnswer
 
 // The same, the exponents copied into `cells`.
 fn dimension_in(rec: &[u8], cells: &mut [u16]) -> DimensionAnswer
-    requires { ⌜ (15300 ≤ length (now cells)) ⊎ (length (now rec) ≤ 2 * length (now cells) + 7) ⌝ }
+    requires { ⌜ Ample (now rec) (now cells) ⌝ }
     ensures { λ r. do ⌜ r ≡ recordAnswer (← ⟦MAX_WIDTH⟧ .entry) (← ⟦MAX_COUNT⟧ .entry) (← ⟦MAX_DEGREE⟧ .entry) (now (rec .entry)) ⌝ }
 {
-    let outcome = copy_record(rec, cells).outcome;
+    let outcome = read_record(rec, cells).outcome;
     match outcome {
         CopyOutcome::Value(shape) => {
             let n = shape.n;
@@ -109,8 +111,24 @@ fn dimension_in(rec: &[u8], cells: &mut [u16]) -> DimensionAnswer
 }
 
 // The dimension of the m monomials in `cells`, in rooms of this call's own. Large rooms take longer to clear than the count of a short list, so
-// small ones are tried before.
+// smaller ones are tried before, and for few exponents tiny ones before these.
 fn in_own_rooms(n: usize, m: usize, cells: &[u16]) -> DimensionAnswer
+    ensures { λ r. do ⌜ r ≡ dimensionAnswer (← ⟦MAX_WIDTH⟧ .entry) (← ⟦MAX_COUNT⟧ .entry) (← ⟦MAX_DEGREE⟧ .entry) n m (now (cells .entry)) ownCells ownCoefficients ownCoefficients ownWords ⌝ }
+{
+    if 16 < cells.len() {
+        return in_small_or_large_rooms(n, m, cells);
+    }
+    let outcome = in_tiny_rooms(n, m, cells).outcome;
+    match outcome {
+        DimensionOutcome::Value(d) => DimensionAnswer {
+            outcome: DimensionOutcome::Value(d),
+        },
+        DimensionOutcome::Refused(_) => in_small_or_large_rooms(n, m, cells),
+    }
+}
+
+// The same, the small rooms tried first.
+fn in_small_or_large_rooms(n: usize, m: usize, cells: &[u16]) -> DimensionAnswer
     ensures { λ r. do ⌜ r ≡ dimensionAnswer (← ⟦MAX_WIDTH⟧ .entry) (← ⟦MAX_COUNT⟧ .entry) (← ⟦MAX_DEGREE⟧ .entry) n m (now (cells .entry)) ownCells ownCoefficients ownCoefficients ownWords ⌝ }
 {
     let outcome = in_small_rooms(n, m, cells).outcome;
@@ -120,6 +138,17 @@ fn in_own_rooms(n: usize, m: usize, cells: &[u16]) -> DimensionAnswer
         },
         DimensionOutcome::Refused(_) => in_large_rooms(n, m, cells),
     }
+}
+
+// The same in tiny rooms.
+fn in_tiny_rooms(n: usize, m: usize, cells: &[u16]) -> DimensionAnswer
+    ensures { λ r. do ⌜ r ≡ dimensionAnswer (← ⟦MAX_WIDTH⟧ .entry) (← ⟦MAX_COUNT⟧ .entry) (← ⟦MAX_DEGREE⟧ .entry) n m (now (cells .entry)) (replicate 256 0) (replicate 16 (pos 0)) (replicate 16 (pos 0)) (replicate 32 0) ⌝ }
+{
+    let mut room = [0u16; 256];
+    let mut first = [0i64; 16];
+    let mut second = [0i64; 16];
+    let mut sums = [0u64; 32];
+    quotient_dimension(n, m, cells, &mut room, &mut first, &mut second, &mut sums)
 }
 
 // The same in small rooms.

@@ -13,10 +13,10 @@ ghost use mathlib.Core.Bool.{true};
 ghost use mathlib.Core.Path.{_≡_};
 ghost use mathlib.Core.List.{[], _∷_, _++_};
 ghost use Prim.Native.Nat.{_+_, _*_, _≤_, _<_};
-ghost use lib.ListN.{length, take};
+ghost use lib.ListN.{length, take, drop};
 ghost use lib.Seq.{sets};
-ghost use Rattle.laws.specs.Record.{bigEndian, exponentBytes, isRecord};
-ghost use Rattle.records.specs.Rows.{rowsAt, Below, headerStands};
+ghost use Rattle.laws.specs.Record.{bigEndian, exponentBytes, isRecord, widthIn, countIn, exponentsIn};
+ghost use Rattle.records.specs.Rows.{rowsAt, Below, headerStands, Ample};
 ghost use Rattle.records.specs.Ideal.{writeAnswer, writeBytes, placeAnswer, placePart, copyAnswer, copyCells};
 
 // The exponents of a record with the greatest width and count.
@@ -24,6 +24,12 @@ pub(crate) const MAX_CELLS: usize = MAX_WIDTH * MAX_COUNT;
 
 // The bytes of that record.
 pub const MAX_RECORD: usize = 7 + 2 * MAX_CELLS;
+
+// The cells of a short record: those of the longest take longer to clear than a short one to read.
+pub(crate) const FEW_CELLS: usize = 256;
+
+// The bytes of a record with so many exponents.
+pub(crate) const SHORT_RECORD: usize = 7 + 2 * FEW_CELLS;
 
 // A size in bytes, or why there is none.
 pub enum SizeOutcome {
@@ -144,6 +150,26 @@ pub fn copy_record(rec: &[u8], cells: &mut [u16]) -> CopyAnswer
     }
 }
 
+// The same into cells that are enough, where the exponents are checked too: after a refusal the cells may be changed.
+pub(crate) fn read_record(rec: &[u8], cells: &mut [u16]) -> CopyAnswer
+    requires { ⌜ Ample (now rec) (now cells) ⌝ }
+    ensures { λ r. do ⌜ r ≡ copyAnswer (← ⟦MAX_COUNT⟧ .entry) (now (rec .entry)) (now (cells .entry)) ⌝ }
+    ensures { λ r. do ⌜ (isRecord (← ⟦MAX_COUNT⟧ .entry) (now (rec .entry)) ≡ true → now (cells .exit) ≡ copyCells (← ⟦MAX_COUNT⟧ .entry) (now (rec .entry)) (now (cells .entry))) ⌝ }
+{
+    if !header_stands(rec) {
+        return copy_refused(Refusal::Record);
+    }
+    if !list_stands(rec, cells) {
+        return copy_refused(Refusal::Record);
+    }
+    CopyAnswer {
+        outcome: CopyOutcome::Value(Shape {
+            n: wide(rec[5]),
+            m: wide(rec[6]),
+        }),
+    }
+}
+
 fn size_refused(refusal: Refusal) -> SizeAnswer
     ensures { λ r. ⌜ r ≡ record { outcome = SizeOutcome.Refused refusal } ⌝ }
 {
@@ -160,16 +186,15 @@ fn copy_refused(refusal: Refusal) -> CopyAnswer
     }
 }
 
-// Whether the bytes are a record of at most MAX_COUNT monomials. The cells that every record finds room in take long to clear, so a short one
-// has fewer.
+// Whether the bytes are a record of at most MAX_COUNT monomials.
 pub(crate) fn is_record(rec: &[u8]) -> bool
     ensures { λ r. do ⌜ r ≡ isRecord (← ⟦MAX_COUNT⟧ .entry) (now (rec .entry)) ⌝ }
 {
     if !header_stands(rec) {
         return false;
     }
-    if rec.len() <= 519 {
-        let mut few = [0u16; 256];
+    if rec.len() <= SHORT_RECORD {
+        let mut few = [0u16; FEW_CELLS];
         return list_stands(rec, &mut few);
     }
     let mut cells = [0u16; MAX_CELLS];
@@ -178,8 +203,9 @@ pub(crate) fn is_record(rec: &[u8]) -> bool
 
 // The same for bytes whose header stands, the exponents copied into `cells`.
 fn list_stands(rec: &[u8], cells: &mut [u16]) -> bool
-    requires { ⌜ (headerStands 60 (now rec) ≡ true) × (length (now rec) ≤ 2 * length (now cells) + 7) ⌝ }
+    requires { ⌜ (headerStands 60 (now rec) ≡ true) × Ample (now rec) (now cells) ⌝ }
     ensures { λ r. ⌜ r ≡ isRecord 60 (now (rec .entry)) ⌝ }
+    ensures { λ _. ⌜ now (cells .exit) ≡ exponentsIn (now (rec .entry)) ++ drop (countIn (now (rec .entry)) * widthIn (now (rec .entry))) (now (cells .entry)) ⌝ }
 {
     let n = wide(rec[5]);
     let m = wide(rec[6]);

@@ -1,9 +1,6 @@
--- `in_own_rooms` meets its contract: a dimension that small rooms give is that of the large ones.
+-- `in_own_rooms` meets its contract: a dimension that tiny rooms give is that of the large ones.
 use lib.Dec.{lit≤}
-use lib.IntN.{pos}
-use lib.ListN.{replicate}
-use Rattle.records.proofs.HostCall.{larger-rooms}
-use Rattle.records.specs.Host.{ownCells, ownCoefficients, ownWords}
+use Rattle.records.proofs.HostCall.{own-rooms}
 use borrow.Author.Needs.{needs}
 use Rattle.records.proofs.host.in_own_rooms.Statement.{statement}
 use Rattle.records.proofs.host.in_own_rooms.Tie as tie
@@ -14,8 +11,10 @@ in-own-rooms-spec =
     (tie.spec
     (λ c κs. search needs)
     (λ c. search needs)
+    (λ c κs. search needs)
+    (λ c. search needs)
     (λ c. search needs)
     (λ c κs. search needs)
-    -- returns
-    (λ c. larger-rooms (replicate 2048 0) ownCells (replicate 128 (pos 0)) ownCoefficients (replicate 128 0) ownWords (lit≤ tt) (lit≤ tt) (lit≤ tt) 255 60 65536 (c .before .before .before .before .before .args .n) (c .before .before .before .before .before .args .m) (c .before .before .before .before .before .args .cells .now) (c .before .before .before .in-small-rooms .result) (c .before .outcome .given .0 .0) (c .before .before .before .in-small-rooms .ensures) (c .before .outcome .given .1))
+    -- returns-2
+    (λ c. let p1 = c .before in let p3 = p1 .before .before in let p6 = p3 .before .before .before in own-rooms 256 16 32 (lit≤ tt) (lit≤ tt) (lit≤ tt) 255 60 65536 (p6 .args .n) (p6 .args .m) (p6 .args .cells .now) (p3 .in-tiny-rooms .result) (p1 .outcome .given .0 .0) (p3 .in-tiny-rooms .ensures) (p1 .outcome .given .1))
     (λ c. search needs))
