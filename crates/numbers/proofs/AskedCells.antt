@@ -357,6 +357,10 @@ degree-all (suc n) s xs t ys l = degree-added l (omega arith)
 pub alone : {n s t : ℕ} {xs ys : List ℕ} → Lists n s xs t ys → Lists n t ys 0 ys
 alone {n} l = record { first = l .second; second = rw (zero-mul n) (omega arith); width = l .width; count = omega (arith, l .count) }
 
+-- the first list, with none behind it
+pub alone-first : {n s t : ℕ} {xs ys : List ℕ} → Lists n s xs t ys → Lists n s xs 0 ys
+alone-first {n} l = record { first = l .first; second = rw (zero-mul n) (omega arith); width = l .width; count = omega (arith, l .count) }
+
 pairs-none : (n : ℕ) → pairs n [] ≡ 0
 pairs-none n = sumBelow-none n
 
@@ -366,6 +370,13 @@ module _ (n s : ℕ) (xs : List ℕ) (t : ℕ) (ys : List ℕ) (a b : ℕ) where
 
   pub degree-both : a + coefficientsAsked (listed n t ys) ≡ coefficientsAsked (both n s xs t ys) → b + coefficientsAsked (listed n 0 ys) ≡ coefficientsAsked (both n t ys 0 ys) → a + b + 1 ≡ coefficientsAsked (both n s xs t ys)
   degree-both e f = omega (arith, ap coefficientsAsked (append-nil (listed n t ys)))
+
+module _ (n s : ℕ) (xs : List ℕ) (t : ℕ) (ys : List ℕ) (a : ℕ) (z : t ≡ 0) where
+  pub pairs-one : a + pairs n (listed n 0 ys) ≡ pairs n (both n s xs 0 ys) → a ≡ pairs n (both n s xs t ys)
+  pairs-one e = rw z (omega (arith, pairs-none n))
+
+  pub degree-one : a + coefficientsAsked (listed n 0 ys) ≡ coefficientsAsked (both n s xs 0 ys) → a + 1 ≡ coefficientsAsked (both n s xs t ys)
+  degree-one e = rw z e
 
 -- the greater of two sizes, by a test
 pub greater-of : (d e least k : ℕ) → d ≡ e → ((d < least) × (k ≡ least)) ⊎ ((least ≤ d) × (k ≡ d)) → k ≡ max e least
@@ -449,6 +460,9 @@ module _ (p q : ℕ) (h : p ≤ 4096 * 4096 * 65535) (g : q ≤ 4096 * 4096 * 65
 
   pub degrees-most : p + q ≤ 8192 * 4096 * 65535
   degrees-most = omega arith
+
+pub degree-most : (p : ℕ) → p ≤ 4096 * 4096 * 65535 → p ≤ 8192 * 4096 * 65535
+degree-most p h = omega arith
 
 pub degree-fits-one : (d : ℕ) → d ≤ 8192 * 4096 * 65535 → Fits w64 (d + 1)
 degree-fits-one d h = omega arith

@@ -64,11 +64,14 @@ fn added(n: usize, s: usize, xs: &[u16], t: usize, ys: &[u16]) -> Extent
     Extent { pairs, degree }
 }
 
-// Both lists, cell by cell.
+// Both lists, cell by cell. Most calls have one list, whose loop is shorter where the compiler knows that there is no other.
 fn by_cells(n: usize, s: usize, xs: &[u16], t: usize, ys: &[u16]) -> Extent
     requires { ⌜ Lists n s (now xs) t (now ys) ⌝ }
     ensures { λ r. ⌜ (r .pairs ≡ pairsOf n (both n s (now (xs .entry)) t (now (ys .entry)))) × (r .degree + 1 ≡ coefficientsAsked (both n s (now (xs .entry)) t (now (ys .entry)))) × (r .degree ≤ 8192 * 4096 * 65535) ⌝ }
 {
+    if t == 0 {
+        return added(n, s, xs, 0, ys);
+    }
     let first = added(n, s, xs, t, ys);
     let second = added(n, t, ys, 0, ys);
     Extent {
