@@ -116,12 +116,14 @@ module _ (room room' : List ℕ) (p p' : List ℤ) (sums sums' : List ℕ) (h : 
 -- the call's own rooms hold more than rooms of these sizes
 pub own-rooms : (k j i : ℕ) → k ≤ 16384 → j ≤ 4096 → i ≤ 4096 → (W C M n s : ℕ) (cells : List ℕ) (a : DimensionAnswer) (d : DimensionValue)
     → a ≡ dimensionAnswer W C M n s cells (replicate k 0) (replicate j (pos 0)) (replicate j (pos 0)) (replicate i 0) → a .outcome ≡ DimensionOutcome.Value d
-    → record { outcome = DimensionOutcome.Value d } ≡ dimensionAnswer W C M n s cells ownCells ownCoefficients ownCoefficients ownWords
-own-rooms k j i h g f =
-    larger-rooms (replicate k 0) ownCells (replicate j (pos 0)) ownCoefficients (replicate i 0) ownWords
+    → a ≡ dimensionAnswer W C M n s cells ownCells ownCoefficients ownCoefficients ownWords
+own-rooms k j i h g f W C M n s cells a d e v =
+    ap {B = DimensionAnswer} (λ (o : DimensionOutcome). record { outcome = o }) v
+    ∙ larger-rooms (replicate k 0) ownCells (replicate j (pos 0)) ownCoefficients (replicate i 0) ownWords
     (rw (length-replicate {A = ℕ} k 0, length-replicate {A = ℕ} 16384 0) h)
     (rw (length-replicate j (pos 0), length-replicate 4096 (pos 0)) g)
     (rw (length-replicate {A = ℕ} i 0, length-replicate {A = ℕ} 4096 0) f)
+    W C M n s cells a d e v
 
 -- a dimension that is not refused
 

@@ -118,11 +118,10 @@ fn in_own_rooms(n: usize, m: usize, cells: &[u16]) -> DimensionAnswer
     if 16 < cells.len() {
         return in_small_or_large_rooms(n, m, cells);
     }
-    let outcome = in_tiny_rooms(n, m, cells).outcome;
+    let answer = in_tiny_rooms(n, m, cells);
+    let outcome = answer.outcome;
     match outcome {
-        DimensionOutcome::Value(d) => DimensionAnswer {
-            outcome: DimensionOutcome::Value(d),
-        },
+        DimensionOutcome::Value(_) => answer,
         DimensionOutcome::Refused(_) => in_small_or_large_rooms(n, m, cells),
     }
 }
@@ -131,11 +130,10 @@ fn in_own_rooms(n: usize, m: usize, cells: &[u16]) -> DimensionAnswer
 fn in_small_or_large_rooms(n: usize, m: usize, cells: &[u16]) -> DimensionAnswer
     ensures { λ r. do ⌜ r ≡ dimensionAnswer (← ⟦MAX_WIDTH⟧ .entry) (← ⟦MAX_COUNT⟧ .entry) (← ⟦MAX_DEGREE⟧ .entry) n m (now (cells .entry)) ownCells ownCoefficients ownCoefficients ownWords ⌝ }
 {
-    let outcome = in_small_rooms(n, m, cells).outcome;
+    let answer = in_small_rooms(n, m, cells);
+    let outcome = answer.outcome;
     match outcome {
-        DimensionOutcome::Value(d) => DimensionAnswer {
-            outcome: DimensionOutcome::Value(d),
-        },
+        DimensionOutcome::Value(_) => answer,
         DimensionOutcome::Refused(_) => in_large_rooms(n, m, cells),
     }
 }
