@@ -2,6 +2,7 @@
 --   both n s xs t ys   == the s monomials in the cells xs and the t in ys, one list
 --   Lists n s xs t ys  == those cells hold the two lists, and no size asked for them overflows a word
 --   greatest xs        == the greatest number in xs, 0 for none
+--   Measured n L p d   == p is e of L, and d the degree of the lcm, which is no large number
 -- In this file:
 --   column-listed, column-append, column-count   a column of a list in cells, of two lists, and its length
 --   at-first, at-second, columns   a column of both lists, cell by cell, and its length
@@ -206,6 +207,11 @@ module _ {n s t : ℕ} {xs ys : List ℕ} (l : Lists n s xs t ys) where
 
   pub coefficients-are : sumBelow n (λ v. greatest (column (both n s xs t ys) v)) + 1 ≡ coefficientsAsked (both n s xs t ys)
   coefficients-are = omega (arith, lcm-degree n (both n s xs t ys) (both-within n s xs t ys))
+
+pub record Measured (n : ℕ) (L : List (List ℕ)) (p d : ℕ) : Type 0 where
+  pub count : p ≡ pairs n L
+  pub sum : d + 1 ≡ coefficientsAsked L
+  pub most : d ≤ 8192 * 4096 * 65535
 
 -- a room of the asked size has the cells that the engine wants
 pub enough : (n s : ℕ) (cells room : List ℕ) → length room ≡ cellsAsked n (listed n s cells) → s * s * n ≤ length room

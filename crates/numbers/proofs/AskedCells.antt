@@ -5,12 +5,17 @@
 --   newDegree n L p  == what it adds to the degree of their lcm
 --   Sought n L a x best k == x is not among the exponents from a to k, of which `best` is the greatest
 --   Found n L a x r       == r is x, if it is one of the exponents from a on, and otherwise the greatest of them
+--   Counted n L v count k == `count` different exponents of variable v are not among those from the cell k on
+--   Summed n L sum v      == `sum` pairs have a variable below v
 -- In this file:
+--   from-next                 the exponents behind a cell
 --   cell-is                   a cell of the two lists
---   sought-..                 the loop that looks for x in the cells from a on
+--   sought-..                 the loop that looks for x in the cells from a on; found-..: what it has found
 --   turned-..                 one turn of the loop over the cells
+--   counted-.., summed-..     the loops over the exponents of one variable, and over the variables
+--   degree-known              the degree of the greatest exponents
 --   grid                      a sum over the cells, variable by variable
---   pairs-all, degree-all     what a list adds to the list behind it; pairs-both, degree-both: both lists
+--   pairs-all, degree-all     what a list adds to the list behind it; pairs-both, degree-both: both lists; pairs-one, degree-one: one alone
 --   ..-fits, ..-in            the sums, products and places of the loops
 use mathlib.Core.Path.{_≡_, refl, sym, ap, ap₂, _∙_}
 use mathlib.Core.Logic.{_⊎_, inl, inr}

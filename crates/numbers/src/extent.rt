@@ -1,5 +1,5 @@
-// What a list has of each of two things, by which the asked sizes grow: different pairs of a variable and a nonzero exponent, and the degree of
-// the lcm. Two lists are taken as one: s monomials in the cells xs and, behind them, t in ys.
+// What the asked sizes grow by: the different pairs of a variable and a nonzero exponent, and the degree of the lcm. Two lists are taken as one,
+// s monomials in the cells xs and, behind them, t in ys.
 use crate::columns::greater;
 use crate::columns::greatest_of;
 use crate::columns::join_all;
@@ -11,10 +11,10 @@ ghost use Prim.Native.Nat.{ℕ, _+_, _*_, _/_, _%_, _<_, _≤_};
 ghost use lib.ListN.{length, getD, drop};
 ghost use Rattle.laws.specs.Ideal.{listed};
 ghost use Rattle.laws.specs.Room.{coefficientsAsked, column, distinct as distinctOf, holds, pairs as pairsOf};
-ghost use Rattle.laws.proofs.Asked.{Lists, both, greatest};
+ghost use Rattle.laws.proofs.Asked.{Lists, Measured, both, greatest};
 ghost use Rattle.laws.proofs.Columns.{Greatest};
 
-// Different pairs, and the degree of the lcm.
+// How many different pairs, and the degree of the lcm.
 pub(crate) struct Extent {
     pub(crate) pairs: usize,
     pub(crate) degree: usize,
@@ -67,7 +67,7 @@ fn added(n: usize, s: usize, xs: &[u16], t: usize, ys: &[u16]) -> Extent
 // Both lists, cell by cell. Most calls have one list, whose loop is shorter where the compiler knows that there is no other.
 fn by_cells(n: usize, s: usize, xs: &[u16], t: usize, ys: &[u16]) -> Extent
     requires { ⌜ Lists n s (now xs) t (now ys) ⌝ }
-    ensures { λ r. ⌜ (r .pairs ≡ pairsOf n (both n s (now (xs .entry)) t (now (ys .entry)))) × (r .degree + 1 ≡ coefficientsAsked (both n s (now (xs .entry)) t (now (ys .entry)))) × (r .degree ≤ 8192 * 4096 * 65535) ⌝ }
+    ensures { λ r. ⌜ Measured n (both n s (now (xs .entry)) t (now (ys .entry))) (r .pairs) (r .degree) ⌝ }
 {
     if t == 0 {
         return added(n, s, xs, 0, ys);
@@ -120,10 +120,10 @@ fn pairs_by_columns(n: usize, s: usize, xs: &[u16], t: usize, ys: &[u16], us: &[
     pairs
 }
 
-// Both lists, by way of their lcm, in us, which holds zeros. An lcm without squares has as many pairs as its degree says.
+// Both lists, by way of their lcm, which is written to us, zeros before. Where it has no square there are as many pairs as its degree tells.
 fn by_columns(n: usize, s: usize, xs: &[u16], t: usize, ys: &[u16], us: &mut [u16]) -> Extent
     requires { ⌜ Lists n s (now xs) t (now ys) × (length (now us) ≡ n) × ((v : ℕ) → getD (now us) v 0 ≡ 0) ⌝ }
-    ensures { λ r. ⌜ (r .pairs ≡ pairsOf n (both n s (now (xs .entry)) t (now (ys .entry)))) × (r .degree + 1 ≡ coefficientsAsked (both n s (now (xs .entry)) t (now (ys .entry)))) × (r .degree ≤ 8192 * 4096 * 65535) ⌝ }
+    ensures { λ r. ⌜ Measured n (both n s (now (xs .entry)) t (now (ys .entry))) (r .pairs) (r .degree) ⌝ }
 {
     join_all(us, s, xs);
     join_all(us, t, ys);
@@ -136,10 +136,10 @@ fn by_columns(n: usize, s: usize, xs: &[u16], t: usize, ys: &[u16], us: &mut [u1
     Extent { pairs, degree }
 }
 
-// Both lists. In few variables a look at each cell is shorter than the greatest exponents beforehand.
+// Both lists. In few variables a look at each cell takes less than the lcm beforehand.
 pub(crate) fn extent_of(n: usize, s: usize, xs: &[u16], t: usize, ys: &[u16]) -> Extent
     requires { ⌜ Lists n s (now xs) t (now ys) × (n ≤ 255) ⌝ }
-    ensures { λ r. ⌜ (r .pairs ≡ pairsOf n (both n s (now (xs .entry)) t (now (ys .entry)))) × (r .degree + 1 ≡ coefficientsAsked (both n s (now (xs .entry)) t (now (ys .entry)))) × (r .degree ≤ 8192 * 4096 * 65535) ⌝ }
+    ensures { λ r. ⌜ Measured n (both n s (now (xs .entry)) t (now (ys .entry))) (r .pairs) (r .degree) ⌝ }
 {
     if n <= 32 {
         return by_cells(n, s, xs, t, ys);

@@ -9,7 +9,7 @@ by-cells-spec =
     -- added-requires
     (λ c κs. let p3 = c .before .before .before in alone-first (p3 .pre))
     -- returns
-    (λ c. let p1 = c .before in let a = p1 .before .before .before .args in (pairs-one (a .n) (a .s) (a .xs .now) (a .t) (a .ys .now) (c .added .result .pairs) (p1 .if1 .taken) (c .added .ensures .0 .0), degree-one (a .n) (a .s) (a .xs .now) (a .t) (a .ys .now) (c .added .result .degree) (p1 .if1 .taken) (c .added .ensures .1 .0), degree-most (c .added .result .degree) (c .added .ensures .1 .1)))
+    (λ c. let p1 = c .before in let a = p1 .before .before .before .args in record { count = pairs-one (a .n) (a .s) (a .xs .now) (a .t) (a .ys .now) (c .added .result .pairs) (p1 .if1 .taken) (c .added .ensures .0 .0); sum = degree-one (a .n) (a .s) (a .xs .now) (a .t) (a .ys .now) (c .added .result .degree) (p1 .if1 .taken) (c .added .ensures .1 .0); most = degree-most (c .added .result .degree) (c .added .ensures .1 .1) })
     -- added-requires-2
     (λ c κs. let p3 = c .before .before .before in p3 .pre)
     -- added-requires-3
@@ -19,4 +19,4 @@ by-cells-spec =
     -- add-degree
     (λ c. let p4 = c .before .before .before .before in let p5 = p4 .before in degrees-fit (p5 .added2 .result .degree) (p4 .added3 .result .degree) (p5 .added2 .ensures .1 .1) (p4 .added3 .ensures .1 .1))
     -- returns-2
-    (λ c. let p4 = c .before .before .before .before in let p5 = p4 .before in let a = p5 .before .before .before .before .args in (pairs-both (a .n) (a .s) (a .xs .now) (a .t) (a .ys .now) (p5 .added2 .result .pairs) (p4 .added3 .result .pairs) (p5 .added2 .ensures .0 .0) (p4 .added3 .ensures .0 .0), degree-both (a .n) (a .s) (a .xs .now) (a .t) (a .ys .now) (p5 .added2 .result .degree) (p4 .added3 .result .degree) (p5 .added2 .ensures .1 .0) (p4 .added3 .ensures .1 .0), degrees-most (p5 .added2 .result .degree) (p4 .added3 .result .degree) (p5 .added2 .ensures .1 .1) (p4 .added3 .ensures .1 .1))))
+    (λ c. let p4 = c .before .before .before .before in let p5 = p4 .before in let a = p5 .before .before .before .before .args in record { count = pairs-both (a .n) (a .s) (a .xs .now) (a .t) (a .ys .now) (p5 .added2 .result .pairs) (p4 .added3 .result .pairs) (p5 .added2 .ensures .0 .0) (p4 .added3 .ensures .0 .0); sum = degree-both (a .n) (a .s) (a .xs .now) (a .t) (a .ys .now) (p5 .added2 .result .degree) (p4 .added3 .result .degree) (p5 .added2 .ensures .1 .0) (p4 .added3 .ensures .1 .0); most = degrees-most (p5 .added2 .result .degree) (p4 .added3 .result .degree) (p5 .added2 .ensures .1 .1) (p4 .added3 .ensures .1 .1) }))

@@ -24,8 +24,8 @@ by-columns-spec =
     -- same-length
     (λ c. let j = c .before .before .before .before .before .before .before .before .before in let i = j .before .before .before .before in let a = i .before .before .before .before .before in j .join-all2 .ensures .0 ∙ i .join-all .ensures .0)
     -- returns
-    (λ c. let j = c .before .before .before .before .before .before .before .before .before in let i = j .before .before .before .before in let a = i .before .before .before .before .before in let g = joined-both (a .args .n) (a .args .s) (a .args .xs .now) (a .args .t) (a .args .ys .now) (a .args .us .now) (i .join-all .last .0) (j .join-all2 .last .0) (a .pre .1) (a .pre .2) (i .join-all .ensures) (j .join-all2 .ensures) in let d = degree-known (a .pre .0) g (c .before .before .before .before .before .degree .result) (c .before .before .before .before .before .degree .ensures) in (c .pairs-by-columns .ensures, d .0, d .1))
+    (λ c. let j = c .before .before .before .before .before .before .before .before .before in let i = j .before .before .before .before in let a = i .before .before .before .before .before in let g = joined-both (a .args .n) (a .args .s) (a .args .xs .now) (a .args .t) (a .args .ys .now) (a .args .us .now) (i .join-all .last .0) (j .join-all2 .last .0) (a .pre .1) (a .pre .2) (i .join-all .ensures) (j .join-all2 .ensures) in let d = degree-known (a .pre .0) g (c .before .before .before .before .before .degree .result) (c .before .before .before .before .before .degree .ensures) in record { count = c .pairs-by-columns .ensures; sum = d .0; most = d .1 })
     -- same-length-2
     (λ c. let j = c .before .before .before .before .before .before .before in let i = j .before .before .before .before in let a = i .before .before .before .before .before in j .join-all2 .ensures .0 ∙ i .join-all .ensures .0)
     -- returns-2
-    (λ c. let j = c .before .before .before .before .before .before .before in let i = j .before .before .before .before in let a = i .before .before .before .before .before in let g = joined-both (a .args .n) (a .args .s) (a .args .xs .now) (a .args .t) (a .args .ys .now) (a .args .us .now) (i .join-all .last .0) (j .join-all2 .last .0) (a .pre .1) (a .pre .2) (i .join-all .ensures) (j .join-all2 .ensures) in let e = (c .before .before .before) .degree in let d = degree-known (a .pre .0) g (e .result) (e .ensures) in (e .ensures .0 ∙ pairs-greatest g (omega (arith, c .if1 .left, c .before .greatest-of .ensures)), d .0, d .1)))
+    (λ c. let j = c .before .before .before .before .before .before .before in let i = j .before .before .before .before in let a = i .before .before .before .before .before in let g = joined-both (a .args .n) (a .args .s) (a .args .xs .now) (a .args .t) (a .args .ys .now) (a .args .us .now) (i .join-all .last .0) (j .join-all2 .last .0) (a .pre .1) (a .pre .2) (i .join-all .ensures) (j .join-all2 .ensures) in let e = (c .before .before .before) .degree in let d = degree-known (a .pre .0) g (e .result) (e .ensures) in record { count = e .ensures .0 ∙ pairs-greatest g (omega (arith, c .if1 .left, c .before .greatest-of .ensures)); sum = d .0; most = d .1 }))
