@@ -9,6 +9,7 @@ mod MaskArray
 mod HilbertCall
 mod NumeratorCall
 mod AskedCells
+mod AskedColumns
 mod QuotientCells
 mod RoomsCall
 mod UpdateCall

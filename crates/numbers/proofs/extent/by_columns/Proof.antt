@@ -3,7 +3,7 @@ use mathlib.Core.Path.{_∙_, ap}
 use native.Mathlib.Nat.{le-of-eq, le-trans}
 use native.Mathlib.Omega.{arith}
 use Rattle.laws.proofs.Columns.{joined-both, pairs-greatest}
-use Rattle.numbers.proofs.AskedCells.{degree-known}
+use Rattle.numbers.proofs.AskedColumns.{degree-known}
 use Rattle.numbers.proofs.extent.by_columns.Statement.{statement}
 use Rattle.numbers.proofs.extent.by_columns.Tie as tie
 

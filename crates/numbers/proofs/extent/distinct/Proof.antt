@@ -1,7 +1,8 @@
 use Prim.Native.Nat.{_*_, _+_, _-_}
 use mathlib.Core.Logic.{⊎-elim, inl, inr}
 use Rattle.laws.proofs.Asked.{both}
-use Rattle.numbers.proofs.AskedCells.{Counted, all-fits, all-step, cell-is, count-more, counted-all, counted-held, counted-new, counted-none, counted-zero, first-bytes, first-fits, first-in, second-bytes, second-fits, second-in, step-less}
+use Rattle.numbers.proofs.AskedCells.{all-fits, all-step, cell-is, first-bytes, first-fits, first-in, second-bytes, second-fits, second-in, step-less}
+use Rattle.numbers.proofs.AskedColumns.{Counted, count-more, counted-all, counted-held, counted-new, counted-none, counted-zero}
 use Rattle.numbers.proofs.Steps.{some-there}
 use Rattle.numbers.proofs.extent.distinct.Statement.{statement}
 use Rattle.numbers.proofs.extent.distinct.Tie as tie

@@ -3,7 +3,7 @@ use mathlib.Core.Logic.{⊎-elim, inl, inr}
 use mathlib.Core.Path.{_∙_}
 use native.Mathlib.Omega.{arith}
 use Rattle.laws.proofs.Asked.{both}
-use Rattle.numbers.proofs.AskedCells.{Summed, column-bytes, column-in, column-next, column-pairs, pairs-more, summed-all, summed-next, summed-none}
+use Rattle.numbers.proofs.AskedColumns.{Summed, column-bytes, column-in, column-next, column-pairs, pairs-more, summed-all, summed-next, summed-none}
 use Rattle.numbers.proofs.Steps.{next-less}
 use Rattle.numbers.proofs.extent.pairs_by_columns.Statement.{statement}
 use Rattle.numbers.proofs.extent.pairs_by_columns.Tie as tie
