@@ -4,7 +4,7 @@
 --   greatest xs        == the greatest number in xs, 0 for none
 --   Measured n L p d   == p is e of L, and d the degree of the lcm, which is no large number
 -- In this file:
---   column-listed, column-append, column-count   a column of a list in cells, of two lists, and its length
+--   column-listed, column-count   a column of a list in cells, and its length
 --   at-first, at-second, columns   a column of both lists, cell by cell, and its length
 --   holds-next, holds-end        whether a number stands in the rest of a list
 --   distinct-next, distinct-end  how many different numbers stand in the rest; distinct-most: at most its length
@@ -45,7 +45,7 @@ column-listed n (suc s) cells v (suc i) h l =
     ∙ getD-drop n cells (i * n + v) 0
     ∙ ap (λ (z : ℕ). getD cells z 0) (omega (arith, suc-mul i n))
 
-pub column-append : (L K : List (List ℕ)) (v : ℕ) → column (L ++ K) v ≡ column L v ++ column K v
+column-append : (L K : List (List ℕ)) (v : ℕ) → column (L ++ K) v ≡ column L v ++ column K v
 column-append [] K v = refl
 column-append (m ∷ L) K v = ap (λ (xs : List ℕ). exponent m v ∷ xs) (column-append L K v)
 

@@ -3,15 +3,15 @@
 --   Greatest n L us           == us has for each of n variables its greatest exponent in L
 -- In this file:
 --   joined-none, joined-more  no monomial, and one more
---   joined-both               two lists, one after the other: the greatest of both
+--   joined-zeros              all, joined with zeros: the greatest of each variable
 --   joined-zero               where it is 0, every monomial has 0
 --   zeros-front               a part of a list of zeros
 --   held-most, greatest-held  what stands in a list is at most its greatest, and that stands in it
 --   distinct-at, degree-greatest, pairs-greatest   the different exponents of a variable, the degree of the lcm and e by these
 --   few-distinct              a greatest of at most 1 is how many different ones other than 0 there are
-use mathlib.Core.Path.{_≡_, refl, sym, ap, subst, _∙_}
+use mathlib.Core.Path.{_≡_, refl, sym, ap, _∙_}
 use mathlib.Core.Bool.{Bool, true, false, _||_, cond, false≢true}
-use mathlib.Core.List.{List, [], _∷_, _++_}
+use mathlib.Core.List.{List, [], _∷_, append-nil}
 use Prim.Native.Nat.{ℕ, zero, suc, _+_, _*_, _≤_, _<_, max}
 use native.Mathlib.Omega.{arith}
 use native.Mathlib.Numerals.{add-one}
@@ -23,7 +23,7 @@ use Rattle.laws.specs.Ideal.{listed}
 use Rattle.laws.specs.Monomial.{degree, exponent}
 use Rattle.laws.specs.Room.{holds, distinct, column, pairs}
 use Rattle.laws.specs.Sums.{sumBelow}
-use Rattle.laws.proofs.Asked.{both, column-append, column-count, column-listed, greatest, sumBelow-ext}
+use Rattle.laws.proofs.Asked.{both, column-count, column-listed, greatest, sumBelow-ext}
 use Rattle.laws.proofs.Dimension.{degree-sum}
 use Rattle.laws.proofs.Ideal.{listed-count}
 use Rattle.laws.proofs.Rows.{at, at-cell, Wrote}
@@ -63,10 +63,6 @@ greatest-most : (zs : List ℕ) (i : ℕ) → getD zs i 0 ≤ greatest zs
 greatest-most [] i = omega arith
 greatest-most (x ∷ zs) zero = omega arith
 greatest-most (x ∷ zs) (suc i) = omega (arith, greatest-most zs i)
-
-greatest-append : (xs ys : List ℕ) → greatest (xs ++ ys) ≡ max (greatest xs) (greatest ys)
-greatest-append [] ys = omega arith
-greatest-append (x ∷ xs) ys = omega (arith, greatest-append xs ys)
 
 greatest-take : (xs : List ℕ) (k : ℕ) → greatest (take (suc k) xs) ≡ max (greatest (take k xs)) (getD xs k 0)
 greatest-take [] zero = refl
@@ -116,18 +112,21 @@ module _ {n : ℕ} {L : List (List ℕ)} {us : List ℕ} (g : Greatest n L us) w
       degree-sum n us (g .len)
       ∙ sumBelow-ext n (exponent us) (λ v. distinct (column L v)) (λ v h. sym (distinct-at v h (omega (arith, greatest-most us v))))
 
-module _ (n s : ℕ) (xs : List ℕ) (t : ℕ) (ys us vs ws : List ℕ) where
-  both-joined : ((j : ℕ) → getD us j 0 ≡ 0) → Joined n s xs s us vs → Joined n t ys t vs ws → (v : ℕ) → v < n → getD ws v 0 ≡ greatest (column (both n s xs t ys) v)
-  unfolding Joined
-  both-joined z f g v h =
-      omega (arith, g v h, f v h, z v, ap greatest (whole n s xs v), ap greatest (whole n t ys v), ap greatest (column-append (listed n s xs) (listed n t ys) v), greatest-append (column (listed n s xs) v) (column (listed n t ys) v))
-
-  pub joined-both : length us ≡ n → ((j : ℕ) → getD us j 0 ≡ 0) → (length vs ≡ length us) × Joined (length us) s xs s us vs → (length ws ≡ length vs) × Joined (length vs) t ys t vs ws → Greatest n (both n s xs t ys) ws
-  joined-both e z f g =
-      record {
-        len = g .0 ∙ f .0 ∙ e;
-        each = both-joined z (subst (λ (k : ℕ). Joined k s xs s us vs) e (f .1)) (subst (λ (k : ℕ). Joined k t ys t vs ws) (f .0 ∙ e) (g .1));
-      }
+-- the monomials of a list, joined with zeros
+pub joined-zeros : (n s : ℕ) (cells us vs : List ℕ) → length us ≡ n → ((j : ℕ) → getD us j 0 ≡ 0) → (length vs ≡ length us) × Joined (length us) s cells s us vs → Greatest n (both n s cells 0 cells) vs
+unfolding Joined
+joined-zeros n s cells us vs e z f =
+    record {
+      len = f .0 ∙ e;
+      each = λ v h. omega (arith, f .1 v (omega arith), z v, same v);
+    }
+  where
+    -- the columns of the list are also those of it and none behind it
+    same : (v : ℕ) → greatest (take s (column (listed (length us) s cells) v)) ≡ greatest (column (both n s cells 0 cells) v)
+    same v =
+        rw e
+        (ap greatest (whole n s cells v)
+        ∙ ap (λ (L : List (List ℕ)). greatest (column L v)) (sym (append-nil (listed n s cells))))
 
 pub zeros-front : (n k v : ℕ) → getD (take n (replicate {A = ℕ} k 0)) v 0 ≡ 0
 zeros-front zero k v = refl

@@ -11,9 +11,9 @@
 --   sought-..                 the loop that looks for x in the cells from a on; found-..: what it has found
 --   turned-..                 one turn of the loop over the cells
 --   grid                      a sum over the cells, variable by variable
---   pairs-all, degree-all     what a list adds to the list behind it; pairs-both, degree-both: both lists; pairs-one, degree-one: one alone
+--   pairs-all, degree-all     what a list adds to the list behind it; pairs-both, degree-both: both lists; one-measured, added-measured: one alone
 --   ..-fits, ..-in            the sums, products and places of the loops
-use mathlib.Core.Path.{_≡_, refl, sym, ap, ap₂, _∙_}
+use mathlib.Core.Path.{_≡_, refl, sym, ap, ap₂, subst, _∙_}
 use mathlib.Core.Logic.{_⊎_, inl, inr}
 use mathlib.Core.Bool.{Bool, true, false, _||_, cond}
 use mathlib.Core.List.{List, [], _∷_, _++_, append-nil}
@@ -29,7 +29,7 @@ use borrow.Author.Tests.{eq-eqb, ne-eqb}
 use Rattle.laws.specs.Ideal.{listed}
 use Rattle.laws.specs.Room.{cellsAsked, column, coefficientsAsked, distinct, holds, pairs}
 use Rattle.laws.specs.Sums.{sumBelow}
-use Rattle.laws.proofs.Asked.{Lists, asked-is, asked-small, at-first, at-second, both, both-within, cells-small, columns, distinct-next, greatest, greatest-end, greatest-next, holds-end, holds-next, lcm-degree, pairs-small, sumBelow-ext, sumBelow-next}
+use Rattle.laws.proofs.Asked.{Lists, Measured, asked-is, asked-small, at-first, at-second, both, both-within, cells-small, columns, distinct-next, greatest, greatest-end, greatest-next, holds-end, holds-next, lcm-degree, pairs-small, sumBelow-ext, sumBelow-next}
 use Rattle.laws.proofs.Columns.{greatest-held, held-most}
 use Rattle.laws.proofs.Ideal.{listed-count, listed-within}
 
@@ -273,7 +273,7 @@ pub alone : {n s t : ℕ} {xs ys : List ℕ} → Lists n s xs t ys → Lists n t
 alone {n} l = record { first = l .second; second = rw (zero-mul n) (omega arith); width = l .width; count = omega (arith, l .count) }
 
 -- the first list, with none behind it
-pub alone-first : {n s t : ℕ} {xs ys : List ℕ} → Lists n s xs t ys → Lists n s xs 0 ys
+pub alone-first : {n s t : ℕ} {xs ys : List ℕ} → Lists n s xs t ys → Lists n s xs 0 xs
 alone-first {n} l = record { first = l .first; second = rw (zero-mul n) (omega arith); width = l .width; count = omega (arith, l .count) }
 
 pairs-none : (n : ℕ) → pairs n [] ≡ 0
@@ -286,12 +286,16 @@ module _ (n s : ℕ) (xs : List ℕ) (t : ℕ) (ys : List ℕ) (a b : ℕ) where
   pub degree-both : a + coefficientsAsked (listed n t ys) ≡ coefficientsAsked (both n s xs t ys) → b + coefficientsAsked (listed n 0 ys) ≡ coefficientsAsked (both n t ys 0 ys) → a + b + 1 ≡ coefficientsAsked (both n s xs t ys)
   degree-both e f = omega (arith, ap coefficientsAsked (append-nil (listed n t ys)))
 
-module _ (n s : ℕ) (xs : List ℕ) (t : ℕ) (ys : List ℕ) (a : ℕ) (z : t ≡ 0) where
-  pub pairs-one : a + pairs n (listed n 0 ys) ≡ pairs n (both n s xs 0 ys) → a ≡ pairs n (both n s xs t ys)
-  pairs-one e = rw z (omega (arith, pairs-none n))
+-- what one list alone measures, where there is no second one
+module _ (n s : ℕ) (xs : List ℕ) (t : ℕ) (ys : List ℕ) (z : t ≤ 0) (p d : ℕ) where
+  same : both n s xs 0 xs ≡ both n s xs t ys
+  same = let e : 0 ≡ t = omega arith in ap (λ (k : ℕ). listed n s xs ++ listed n k ys) e
 
-  pub degree-one : a + coefficientsAsked (listed n 0 ys) ≡ coefficientsAsked (both n s xs 0 ys) → a + 1 ≡ coefficientsAsked (both n s xs t ys)
-  degree-one e = rw z e
+  pub one-measured : Measured n (both n s xs 0 xs) p d → Measured n (both n s xs t ys) p d
+  one-measured = subst (λ (L : List (List ℕ)). Measured n L p d) same
+
+  pub added-measured : ((p + pairs n (listed n 0 xs) ≡ pairs n (both n s xs 0 xs)) × (p ≤ 4096 * 4096)) × ((d + coefficientsAsked (listed n 0 xs) ≡ coefficientsAsked (both n s xs 0 xs)) × (d ≤ 4096 * 4096 * 65535)) → Measured n (both n s xs t ys) p d
+  added-measured e = one-measured (record { count = omega (arith, e .0 .0, pairs-none n); sum = e .1 .0; most = omega (arith, e .1 .1) })
 
 -- the greater of two sizes, by a test
 pub greater-of : (d e least k : ℕ) → d ≡ e → ((d < least) × (k ≡ least)) ⊎ ((least ≤ d) × (k ≡ d)) → k ≡ max e least
@@ -375,9 +379,6 @@ module _ (p q : ℕ) (h : p ≤ 4096 * 4096 * 65535) (g : q ≤ 4096 * 4096 * 65
 
   pub degrees-most : p + q ≤ 8192 * 4096 * 65535
   degrees-most = omega arith
-
-pub degree-most : (p : ℕ) → p ≤ 4096 * 4096 * 65535 → p ≤ 8192 * 4096 * 65535
-degree-most p h = omega arith
 
 pub degree-fits-one : (d : ℕ) → d ≤ 8192 * 4096 * 65535 → Fits w64 (d + 1)
 degree-fits-one d h = omega arith

@@ -11,7 +11,7 @@ use mathlib.Core.Bool.{Bool, true, false, _||_, cond}
 use mathlib.Core.List.{List}
 use Prim.Native.Nat.{ℕ, suc, _+_, _*_, _/_, _%_, _≤_, _<_}
 use native.Mathlib.Omega.{arith}
-use native.Mathlib.Nat.{mod-eq-of-lt, div-eq-of-lt, add-mod-right}
+use native.Mathlib.Nat.{zero-mul, mod-eq-of-lt, div-eq-of-lt, add-mod-right}
 use lib.Dec.{eqb}
 use lib.ListN.{length, getD}
 use mir.Syntax.{w64}
@@ -23,6 +23,14 @@ use Rattle.laws.specs.Sums.{sumBelow}
 use Rattle.laws.proofs.Asked.{Lists, both, coefficients-are, columns, distinct-end, distinct-most, distinct-next, sumBelow-next}
 use Rattle.laws.proofs.Columns.{Greatest, degree-greatest, distinct-at}
 use Rattle.numbers.proofs.AskedCells.{Found, behind, cellAt, cells-below, found-held, found-new, from, from-next, row-below, row-past}
+
+-- one list alone, cell by cell
+module _ (n s k : ℕ) where
+  pub one-below : k < s * n → k < s * n + 0 * n
+  one-below g = omega (arith, zero-mul n)
+
+  pub one-past : s * n ≤ k → s * n + 0 * n ≤ k
+  one-past g = omega (arith, zero-mul n)
 
 -- the loop over the exponents of one variable
 

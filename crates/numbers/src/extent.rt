@@ -64,14 +64,11 @@ fn added(n: usize, s: usize, xs: &[u16], t: usize, ys: &[u16]) -> Extent
     Extent { pairs, degree }
 }
 
-// Both lists, cell by cell. Most calls have one list, whose loop is shorter where the compiler knows that there is no other.
-fn by_cells(n: usize, s: usize, xs: &[u16], t: usize, ys: &[u16]) -> Extent
+// Two lists, one behind the other.
+fn of_two(n: usize, s: usize, xs: &[u16], t: usize, ys: &[u16]) -> Extent
     requires { ⌜ Lists n s (now xs) t (now ys) ⌝ }
     ensures { λ r. ⌜ Measured n (both n s (now (xs .entry)) t (now (ys .entry))) (r .pairs) (r .degree) ⌝ }
 {
-    if t == 0 {
-        return added(n, s, xs, 0, ys);
-    }
     let first = added(n, s, xs, t, ys);
     let second = added(n, t, ys, 0, ys);
     Extent {
@@ -81,18 +78,17 @@ fn by_cells(n: usize, s: usize, xs: &[u16], t: usize, ys: &[u16]) -> Extent
 }
 
 // How many different exponents other than 0 variable v has.
-fn distinct(n: usize, s: usize, xs: &[u16], t: usize, ys: &[u16], v: usize) -> usize
-    requires { ⌜ Lists n s (now xs) t (now ys) × (v < n) ⌝ }
-    ensures { λ r. ⌜ r ≡ distinctOf (column (both n s (now (xs .entry)) t (now (ys .entry))) v) ⌝ }
+fn distinct(n: usize, s: usize, cells: &[u16], v: usize) -> usize
+    requires { ⌜ Lists n s (now cells) 0 (now cells) × (v < n) ⌝ }
+    ensures { λ r. ⌜ r ≡ distinctOf (column (both n s (now (cells .entry)) 0 (now (cells .entry))) v) ⌝ }
 {
-    let a = s * n;
-    let end = a + t * n;
+    let end = s * n;
     let mut count: usize = 0;
     let mut k = v;
     while k < end {
-        let x = if k < a { xs[k] } else { ys[k - a] };
+        let x = cells[k];
         if x != 0 {
-            if x != later(n, s, xs, t, ys, k + n, x) {
+            if x != later(n, s, cells, 0, cells, k + n, x) {
                 count += 1;
             }
         }
@@ -101,17 +97,17 @@ fn distinct(n: usize, s: usize, xs: &[u16], t: usize, ys: &[u16], v: usize) -> u
     count
 }
 
-// The different pairs of both lists, variable by variable, whose greatest exponents us has.
-fn pairs_by_columns(n: usize, s: usize, xs: &[u16], t: usize, ys: &[u16], us: &[u16]) -> usize
-    requires { ⌜ Lists n s (now xs) t (now ys) × Greatest n (both n s (now xs) t (now ys)) (now us) ⌝ }
-    ensures { λ r. ⌜ r ≡ pairsOf n (both n s (now (xs .entry)) t (now (ys .entry))) ⌝ }
+// The different pairs, variable by variable, whose greatest exponents us has.
+fn pairs_by_columns(n: usize, s: usize, cells: &[u16], us: &[u16]) -> usize
+    requires { ⌜ Lists n s (now cells) 0 (now cells) × Greatest n (both n s (now cells) 0 (now cells)) (now us) ⌝ }
+    ensures { λ r. ⌜ r ≡ pairsOf n (both n s (now (cells .entry)) 0 (now (cells .entry))) ⌝ }
 {
     let mut pairs: usize = 0;
     let mut v: usize = 0;
     while v < n {
         let u = us[v];
         pairs += if u > 1 {
-            distinct(n, s, xs, t, ys, v)
+            distinct(n, s, cells, v)
         } else {
             u as usize
         };
@@ -120,30 +116,32 @@ fn pairs_by_columns(n: usize, s: usize, xs: &[u16], t: usize, ys: &[u16], us: &[
     pairs
 }
 
-// Both lists, by way of their lcm, which is written to us, zeros before. Where it has no square there are as many pairs as its degree tells.
-fn by_columns(n: usize, s: usize, xs: &[u16], t: usize, ys: &[u16], us: &mut [u16]) -> Extent
-    requires { ⌜ Lists n s (now xs) t (now ys) × (length (now us) ≡ n) × ((v : ℕ) → getD (now us) v 0 ≡ 0) ⌝ }
-    ensures { λ r. ⌜ Measured n (both n s (now (xs .entry)) t (now (ys .entry))) (r .pairs) (r .degree) ⌝ }
+// One list, by way of its lcm, which is written to us, zeros before. Where it has no square there are as many pairs as its degree tells.
+fn by_columns(n: usize, s: usize, cells: &[u16], us: &mut [u16]) -> Extent
+    requires { ⌜ Lists n s (now cells) 0 (now cells) × (length (now us) ≡ n) × ((v : ℕ) → getD (now us) v 0 ≡ 0) ⌝ }
+    ensures { λ r. ⌜ Measured n (both n s (now (cells .entry)) 0 (now (cells .entry))) (r .pairs) (r .degree) ⌝ }
 {
-    join_all(us, s, xs);
-    join_all(us, t, ys);
+    join_all(us, s, cells);
     let degree = degree(us);
     let pairs = if greatest_of(us) > 1 {
-        pairs_by_columns(n, s, xs, t, ys, us)
+        pairs_by_columns(n, s, cells, us)
     } else {
         degree
     };
     Extent { pairs, degree }
 }
 
-// Both lists. In few variables a look at each cell takes less than the lcm beforehand.
+// Two lists, or one alone: in few variables a look at each cell takes less than the lcm beforehand.
 pub(crate) fn extent_of(n: usize, s: usize, xs: &[u16], t: usize, ys: &[u16]) -> Extent
     requires { ⌜ Lists n s (now xs) t (now ys) × (n ≤ 255) ⌝ }
     ensures { λ r. ⌜ Measured n (both n s (now (xs .entry)) t (now (ys .entry))) (r .pairs) (r .degree) ⌝ }
 {
+    if t > 0 {
+        return of_two(n, s, xs, t, ys);
+    }
     if n <= 32 {
-        return by_cells(n, s, xs, t, ys);
+        return added(n, s, xs, 0, xs);
     }
     let mut us = [0u16; 255];
-    by_columns(n, s, xs, t, ys, &mut us[..n])
+    by_columns(n, s, xs, &mut us[..n])
 }
