@@ -27,6 +27,7 @@ use Rattle.numbers.specs.Numerator.{listChecks, notCells, tooMany}
 use Rattle.laws.specs.Dimension.{degreeBound}
 use Rattle.numbers.specs.Dimension.{roomChecks, sumRoom}
 use Rattle.numbers.specs.DimensionParts.{Cells as CellsOf}
+use Rattle.numbers.specs.RoomsParts.{roomsAnswer}
 use Rattle.numbers.proofs.DimensionCall.{Left}
 use Rattle.numbers.specs.declared.dimension.DimensionOutcome.{DimensionOutcome}
 use Rattle.numbers.specs.declared.dimension.DimensionAnswer.{DimensionAnswer}
@@ -76,10 +77,10 @@ module _ (n s : ℕ) (xs : List ℕ) (t : ℕ) (ys : List ℕ) (large : Bool) (l
       ∷ []
 
   abbrev pub outcome : Rooms
-  outcome = Option·elim (refusal checks) (Rooms.Asked (record { cells = cells; coefficients = coefficients })) Rooms.Refused
+  outcome = roomsAnswer n s xs t ys large least room first second
 
   stops : (x : Refusal) → refusal checks ≡ some x → Rooms.Refused x ≡ outcome
-  unfolding Option·elim
+  unfolding Option·elim roomsAnswer
   stops x e = rw e
 
   pub stops-width : 255 < n → Rooms.Refused Width ≡ outcome
@@ -121,7 +122,7 @@ module _ (n s : ℕ) (xs : List ℕ) (t : ℕ) (ys : List ℕ) (large : Bool) (l
                   (first-four ∙ rw (enough, or-true (ltb first coefficients) (ltb second coefficients) (lt-ltb second coefficients (rw eb at b))))
 
               pub asks : a .coefficients ≤ first → a .coefficients ≤ second → Rooms.Asked a ≡ outcome
-              unfolding Option·elim
+              unfolding Option·elim roomsAnswer
               asks b d =
                   let e : refusal checks ≡ none = first-four ∙ rw (enough, le-ltb first coefficients (rw eb at b), le-ltb second coefficients (rw eb at d)) in
                   rw e (ap₂ (λ (x y : ℕ). Rooms.Asked (record { cells = x; coefficients = y })) ea eb)
@@ -141,9 +142,11 @@ module _ (n s : ℕ) (xs : List ℕ) (t : ℕ) (ys : List ℕ) (large : Bool) (l
     pub second-lent : a .coefficients ≤ second
 
   pub refused-is : (r : Rooms) (x : Refusal) → r ≡ outcome → r ≡ Rooms.Refused x → refusal checks ≡ some x
+  unfolding roomsAnswer
   refused-is r x e f = elim-refused (refusal checks) (record { cells = cells; coefficients = coefficients }) x (sym e ∙ f)
 
   pub asked-is : (r : Rooms) (a : Sizes) → r ≡ outcome → r ≡ Rooms.Asked a → Passed a
+  unfolding roomsAnswer
   asked-is r a e f =
       let (o, i) = elim-asked (refusal checks) (record { cells = cells; coefficients = coefficients }) a (sym e ∙ f) in
       let (o1, p1) = passes-one (ltb 255 n) Width (tooMany 60 (s + t) ∷ notCells n s xs ∷ notCells n t ys ∷ (large, Coefficient) ∷ (ltb room cells, CellRoom) ∷ (ltb first coefficients || ltb second coefficients, CoefficientRoom) ∷ []) o in

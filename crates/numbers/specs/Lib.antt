@@ -4,6 +4,7 @@ pub mod Coefficients
 pub mod Hilbert
 pub mod HilbertParts
 pub mod Numerator
+pub mod RoomsParts
 pub mod Update
 pub mod Dimension
 pub mod DimensionParts

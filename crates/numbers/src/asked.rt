@@ -4,16 +4,11 @@ use crate::extent::extent_of;
 use monomials::refusal::MAX_COUNT;
 use monomials::refusal::MAX_WIDTH;
 use monomials::refusal::Refusal;
-ghost use mathlib.Core.Bool.{_||_};
-ghost use mathlib.Core.List.{[], _∷_};
-ghost use mathlib.Core.Option.{Option·elim};
 ghost use mathlib.Core.Path.{_≡_};
 ghost use Prim.Native.Nat.{_+_, _≤_, max};
-ghost use lib.Dec.{ltb};
 ghost use Rattle.laws.specs.Room.{cellsAsked, coefficientsAsked};
 ghost use Rattle.laws.proofs.Asked.{Lists, both};
-ghost use Rattle.monomials.specs.Refusal.{refusal, tooWide};
-ghost use Rattle.numbers.specs.Numerator.{notCells, tooMany};
+ghost use Rattle.numbers.specs.RoomsParts.{roomsAnswer};
 
 // The exponent cells asked, and the coefficients asked of either room.
 pub(crate) struct Sizes {
@@ -55,7 +50,7 @@ pub(crate) fn checked(
     first: usize,
     second: usize,
 ) -> Rooms
-    ensures { λ r. ⌜ r ≡ Option·elim (refusal (tooWide 255 n ∷ tooMany 60 (s + t) ∷ notCells n s (now (xs .entry)) ∷ notCells n t (now (ys .entry)) ∷ (large, Refusal.Coefficient) ∷ (ltb room (cellsAsked n (both n s (now (xs .entry)) t (now (ys .entry)))), Refusal.CellRoom) ∷ (ltb first (max (coefficientsAsked (both n s (now (xs .entry)) t (now (ys .entry)))) least) || ltb second (max (coefficientsAsked (both n s (now (xs .entry)) t (now (ys .entry)))) least), Refusal.CoefficientRoom) ∷ [])) (Rooms.Asked (record { cells = cellsAsked n (both n s (now (xs .entry)) t (now (ys .entry))); coefficients = max (coefficientsAsked (both n s (now (xs .entry)) t (now (ys .entry)))) least })) Rooms.Refused ⌝ }
+    ensures { λ r. ⌜ r ≡ roomsAnswer n s (now (xs .entry)) t (now (ys .entry)) large least room first second ⌝ }
 {
     if MAX_WIDTH < n {
         return Rooms::Refused(Refusal::Width);
