@@ -88,9 +88,6 @@ below-last i m h = omega arith
 pub next-fits-most : (i k m : ℕ) → i < k → k ≤ m → Fits w64 m → Fits w64 (i + 1)
 next-fits-most i k m h g f = omega arith
 
-pub front-within : (a L : ℕ) → a ≤ L → 0 + a ≤ L
-front-within a L h = omega arith
-
 -- place i of n from the place a on, in a list of L
 pub offset-in : (a i n L : ℕ) → i < n → a + n ≤ L → a + i < L
 offset-in a i n L h g = omega arith

@@ -5,7 +5,7 @@ use monomials::refusal::MAX_COUNT;
 use monomials::refusal::MAX_WIDTH;
 use monomials::refusal::Refusal;
 ghost use mathlib.Core.Path.{_≡_};
-ghost use Prim.Native.Nat.{_+_, _≤_, max};
+ghost use Prim.Native.Nat.{_≤_, max};
 ghost use Rattle.laws.specs.Room.{cellsAsked, coefficientsAsked};
 ghost use Rattle.laws.proofs.Asked.{Lists, both};
 ghost use Rattle.numbers.specs.RoomsParts.{roomsAnswer};
