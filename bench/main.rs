@@ -86,6 +86,7 @@ fn small(table: &mut Table) {
     small_rows(table, "dimension, squares", workloads::small_artinian, 800, DIMENSION, Asked::Times(2.0));
     small_rows(table, "numerator, edges", workloads::edges, 730, NUMERATOR, Asked::Times(2.0));
     small_rows(table, "numerator, wide", workloads::wide, 750, NUMERATOR, Asked::Times(2.0));
+    small_rows(table, "wide, exponents", workloads::wide_powers, 750, NUMERATOR, Asked::Times(2.0));
 }
 
 fn dimensions(table: &mut Table) {
@@ -193,6 +194,7 @@ fn once(kind: &str, k: usize) {
         "small" => each(workloads::small, 700, NUMERATOR),
         "edges" => each(workloads::edges, 730, NUMERATOR),
         "wide" => each(workloads::wide, 750, NUMERATOR),
+        "powers" => each(workloads::wide_powers, 750, NUMERATOR),
         "squares" => each(workloads::small_artinian, 800, DIMENSION),
         "host" => each(workloads::small_artinian, 800, HOST),
         "update" => {

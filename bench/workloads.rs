@@ -61,6 +61,16 @@ pub fn wide(random: &mut Random, s: usize) -> List {
     List::of(255, &(0..s).map(|_| square_free(random, 255, 3, 3)).collect::<Vec<_>>())
 }
 
+/// n = 255, powers of three variables each, exponents 1 to 3.
+pub fn wide_powers(random: &mut Random, s: usize) -> List {
+    let monomial = |random: &mut Random| {
+        let variables = random.sample(255, 3);
+        let exponents: Vec<u16> = (0..3).map(|_| random.from(1, 3) as u16).collect();
+        spread(255, &variables, |i| exponents[i])
+    };
+    List::of(255, &(0..s).map(|_| monomial(random)).collect::<Vec<_>>())
+}
+
 /// A variable for each edge and a monomial for each vertex.
 fn graph(vertices: usize, edges: &[[usize; 2]]) -> List {
     let mut all = vec![vec![0; edges.len()]; vertices];

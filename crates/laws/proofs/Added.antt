@@ -9,18 +9,19 @@
 -- In this file: low of sums and differences, and that it decides where both fit; the steps and ends of the loops.
 use mathlib.Core.Path.{_≡_, refl, sym, ap, ap₂, _∙_}
 use mathlib.Core.Bool.{Bool, true, false}
-use mathlib.Core.List.{List, [], _∷_, _++_}
+use mathlib.Core.List.{List, _++_}
 use Prim.Native.Nat.{ℕ, zero, suc, _+_, _-_, _≤_, _<_, _^_}
 use native.Mathlib.Omega.{arith}
 use lib.Dec.{ltb, eqb}
-use lib.ListN.{length, getD, set, length-set, take, drop, length-take, List·getD-eq-default, List·getD-append}
-use lib.Seq.{getD-set-same, getD-set-other, set-out, getD-take, getD-drop, getD-append-add}
+use lib.ListN.{length, set, length-set, take, drop, List·getD-eq-default, List·getD-append}
+use lib.Seq.{getD-set-same, getD-set-other, set-out, getD-drop, getD-append-add}
 use lib.IntN.{ℤ, pos, _+ℤ_, _-ℤ_, +ℤ-idr, +ℤ-assoc}
 use borrow.Author.Tests.{ltb-true, ltb-false, eqb-true, eqb-false}
 use mir.Val.{SFits}
 use mir.Syntax.{w64}
 use Rattle.laws.specs.Coefficients.{coefficient, shift}
 use Rattle.laws.specs.Word.{residue, wrap}
+use Rattle.laws.proofs.Lists.{take-constant}
 use Rattle.laws.proofs.Coefficients.{shift-below, shift-at}
 use Rattle.laws.proofs.Word.{residue-cong-add, residue-cong-sub, wrap-residue, wrap-fits, signed-exact}
 
@@ -144,11 +145,7 @@ adding-end s f out k new h a = record { len = a .len; sums = λ j l. a .done j (
 -- a part of the zeros
 pub zeros-part : (s : List ℤ) (w : ℕ) → Zeros s → Zeros (take w s)
 unfolding Zeros
-zeros-part s w z k = go (ltb k w) refl
-  where
-    go : (t : Bool) → ltb k w ≡ t → coefficient (take w s) k ≡ pos 0
-    go true p = getD-take w s k (pos 0) (ltb-true k w p) ∙ z k
-    go false p = List·getD-eq-default (take w s) (pos 0) (rw length-take (omega (arith, ltb-false k w p)))
+zeros-part s w z = take-constant (pos 0) s w z
 
 pub zeros-back : (s p : List ℤ) (w : ℕ) → length p ≡ w → Zeros s → Zeros p → Zeros (p ++ drop w s)
 unfolding Zeros

@@ -23,11 +23,12 @@ use native.Mathlib.Nat.{suc-mul, zero-mul, mul-le-mul, mul-le-mul-left, mul-comm
 use native.Mathlib.Numerals.{add-one}
 use lib.Dec.{eqb}
 use lib.ListN.{length, length-append, List·getD-append, drop, getD, drop-of-length-le, List·getD-eq-default}
-use lib.Seq.{drop-cons, getD-take, getD-drop, getD-append-add}
+use lib.Seq.{getD-take, getD-drop, getD-append-add}
 use Rattle.laws.specs.Monomial.{degree, exponent, lcm}
 use Rattle.laws.specs.Ideal.{listed, Within, lcmOf}
 use Rattle.laws.specs.Room.{holds, distinct, column, pairs, cellsAsked, coefficientsAsked}
 use Rattle.laws.specs.Sums.{sumBelow}
+use Rattle.laws.proofs.Lists.{drop-next}
 use Rattle.laws.proofs.Monomial.{length-lcm}
 use Rattle.laws.proofs.Ideal.{within-tail, within-append, listed-within, listed-count}
 use Rattle.laws.proofs.Dimension.{degree-sum}
@@ -78,17 +79,14 @@ module _ (n s : ℕ) (xs : List ℕ) (t : ℕ) (ys : List ℕ) where
 
 -- the rest of a list, from its place i on
 
-rest : (xs : List ℕ) (i : ℕ) → i < length xs → drop i xs ≡ getD xs i 0 ∷ drop (i + 1) xs
-rest xs i h = rw (add-one i) (drop-cons xs i 0 h)
-
 pub holds-next : (x : ℕ) (xs : List ℕ) (i : ℕ) → i < length xs → holds x (drop i xs) ≡ (eqb x (getD xs i 0) || holds x (drop (i + 1) xs))
-holds-next x xs i h = ap (holds x) (rest xs i h)
+holds-next x xs i h = ap (holds x) (drop-next xs i h)
 
 pub holds-end : (x : ℕ) (xs : List ℕ) (i : ℕ) → length xs ≤ i → holds x (drop i xs) ≡ false
 holds-end x xs i h = ap (holds x) (drop-of-length-le xs h)
 
 pub distinct-next : (xs : List ℕ) (i : ℕ) → i < length xs → distinct (drop i xs) ≡ cond (eqb (getD xs i 0) 0 || holds (getD xs i 0) (drop (i + 1) xs)) (distinct (drop (i + 1) xs)) (suc (distinct (drop (i + 1) xs)))
-distinct-next xs i h = ap distinct (rest xs i h)
+distinct-next xs i h = ap distinct (drop-next xs i h)
 
 pub distinct-end : (xs : List ℕ) (i : ℕ) → length xs ≤ i → distinct (drop i xs) ≡ 0
 distinct-end xs i h = ap distinct (drop-of-length-le xs h)
@@ -106,7 +104,7 @@ greatest [] = 0
 greatest (x ∷ xs) = max x (greatest xs)
 
 pub greatest-next : (xs : List ℕ) (i : ℕ) → i < length xs → greatest (drop i xs) ≡ max (getD xs i 0) (greatest (drop (i + 1) xs))
-greatest-next xs i h = ap greatest (rest xs i h)
+greatest-next xs i h = ap greatest (drop-next xs i h)
 
 pub greatest-end : (xs : List ℕ) (i : ℕ) → length xs ≤ i → greatest (drop i xs) ≡ 0
 greatest-end xs i h = ap greatest (drop-of-length-le xs h)

@@ -5,7 +5,6 @@
 --   joined-none, joined-more  no monomial, and one more
 --   joined-zeros              all, joined with zeros: the greatest of each variable
 --   joined-zero               where it is 0, every monomial has 0
---   zeros-front               a part of a list of zeros
 --   held-most, greatest-held  what stands in a list is at most its greatest, and that stands in it
 --   distinct-at, degree-greatest, pairs-greatest   the different exponents of a variable, the degree of the lcm and e by these
 --   few-distinct              a greatest of at most 1 is how many different ones other than 0 there are
@@ -16,7 +15,7 @@ use Prim.Native.Nat.{ℕ, zero, suc, _+_, _*_, _≤_, _<_, max}
 use native.Mathlib.Omega.{arith}
 use native.Mathlib.Numerals.{add-one}
 use lib.Dec.{eqb}
-use lib.ListN.{length, getD, take, replicate}
+use lib.ListN.{length, getD, take}
 use lib.Seq.{take-all}
 use borrow.Author.Tests.{eqb-true, eqb-false}
 use Rattle.laws.specs.Ideal.{listed}
@@ -127,12 +126,6 @@ joined-zeros n s cells us vs e z f =
         rw e
         (ap greatest (whole n s cells v)
         ∙ ap (λ (L : List (List ℕ)). greatest (column L v)) (sym (append-nil (listed n s cells))))
-
-pub zeros-front : (n k v : ℕ) → getD (take n (replicate {A = ℕ} k 0)) v 0 ≡ 0
-zeros-front zero k v = refl
-zeros-front (suc n) zero v = refl
-zeros-front (suc n) (suc k) zero = refl
-zeros-front (suc n) (suc k) (suc v) = zeros-front n k v
 
 pub joined-zero : (n s : ℕ) (cells us vs : List ℕ) → Joined n s cells s us vs → (i j : ℕ) → i < s → j < n → getD vs j 0 ≡ 0 → getD cells (i * n + j) 0 ≡ 0
 unfolding Joined

@@ -4,13 +4,14 @@
 --   written-length  it keeps its length
 --   written-all     all cells are written
 --   drop-back       two lists that are equal from cell i + 1 on and in cell i are equal from cell i on
+--   replicate-constant, take-constant   a list of one value, and a part of it, read anywhere with that value as the default
 -- Assumes nothing.
-use mathlib.Core.Path.{_≡_, refl, sym, ap, ap₂, _∙_}
+use mathlib.Core.Path.{_≡_, refl, ap, ap₂}
 use mathlib.Core.List.{List, [], _∷_, _++_, append-nil}
 use Prim.Native.Nat.{ℕ, zero, suc, _+_, _≤_, _<_}
 use native.Mathlib.Numerals.{add-one}
 use native.Mathlib.Omega.{arith}
-use lib.ListN.{length, getD, take, drop, set, length-append, length-take, length-drop, drop-of-length-le}
+use lib.ListN.{length, getD, take, drop, set, replicate, length-append, length-take, length-drop, drop-of-length-le}
 use lib.Seq.{drop-cons, take-all}
 
 -- what is left before cell i: cell i, and what is left after it
@@ -39,3 +40,15 @@ written-all s d i e h = rw (take-all i s (omega arith), drop-of-length-le d h) (
 -- one cell back
 pub drop-back : (a b : List ℕ) (i : ℕ) → i < length a → i < length b → getD a i 0 ≡ getD b i 0 → drop (i + 1) a ≡ drop (i + 1) b → drop i a ≡ drop i b
 drop-back a b i h k e d = rw (drop-next a i h, drop-next b i k) (ap₂ {C = List ℕ} _∷_ e d)
+
+-- one value throughout
+pub replicate-constant : {A : Type 0} (d : A) (n k : ℕ) → getD (replicate n d) k d ≡ d
+replicate-constant d zero k = refl
+replicate-constant d (suc n) zero = refl
+replicate-constant d (suc n) (suc k) = replicate-constant d n k
+
+pub take-constant : {A : Type 0} (d : A) (l : List A) (w : ℕ) → ((k : ℕ) → getD l k d ≡ d) → (k : ℕ) → getD (take w l) k d ≡ d
+take-constant d l zero h k = refl
+take-constant d [] (suc w) h k = refl
+take-constant d (x ∷ l) (suc w) h zero = h 0
+take-constant d (x ∷ l) (suc w) h (suc k) = take-constant d l w (λ j. h (suc j)) k

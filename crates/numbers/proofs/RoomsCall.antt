@@ -1,6 +1,5 @@
 -- The checks that the calls on lists share: which one decides, and what holds of a call that passes them.
---   checks                == the checks in their order: 1, 2, 3 first list, 3 second list, 15, 7, 8
---   outcome               == the refusal, or else the sizes asked
+--   checks, outcome       == `roomsChecks` and `roomsAnswer`
 --   Passed                == what holds where none of them refuses
 -- In this file:
 --   stops-.., asks        the outcomes, check by check
@@ -20,14 +19,14 @@ use borrow.Author.Tests.{lt-ltb, le-ltb, eq-eqb, ne-eqb, ltb-false, eqb-true, no
 use Rattle.laws.specs.Ideal.{listed}
 use Rattle.laws.specs.Room.{cellsAsked, coefficientsAsked, dimensionWords}
 use Rattle.laws.proofs.Asked.{both}
-use Rattle.monomials.specs.Refusal.{Check, refusal, tooWide}
+use Rattle.monomials.specs.Refusal.{Check, refusal}
 use Rattle.monomials.specs.declared.refusal.Refusal.{Refusal}
 use Rattle.monomials.specs.declared.refusal.Refusal.the-variants.{Width, Count, Cells, Coefficient, CellRoom, CoefficientRoom}
 use Rattle.numbers.specs.Numerator.{listChecks, notCells, tooMany}
 use Rattle.laws.specs.Dimension.{degreeBound}
 use Rattle.numbers.specs.Dimension.{roomChecks, sumRoom}
 use Rattle.numbers.specs.DimensionParts.{Cells as CellsOf}
-use Rattle.numbers.specs.RoomsParts.{roomsAnswer}
+use Rattle.numbers.specs.RoomsParts.{roomsAnswer, roomsChecks}
 use Rattle.numbers.proofs.DimensionCall.{Left}
 use Rattle.numbers.specs.declared.dimension.DimensionOutcome.{DimensionOutcome}
 use Rattle.numbers.specs.declared.dimension.DimensionAnswer.{DimensionAnswer}
@@ -66,15 +65,7 @@ module _ (n s : ℕ) (xs : List ℕ) (t : ℕ) (ys : List ℕ) (large : Bool) (l
   coefficients = max (coefficientsAsked (both n s xs t ys)) least
 
   abbrev pub checks : List Check
-  checks =
-      tooWide 255 n
-      ∷ tooMany 60 (s + t)
-      ∷ notCells n s xs
-      ∷ notCells n t ys
-      ∷ (large, Coefficient)
-      ∷ (ltb room cells, CellRoom)
-      ∷ (ltb first coefficients || ltb second coefficients, CoefficientRoom)
-      ∷ []
+  checks = roomsChecks n s xs t ys large least room first second
 
   abbrev pub outcome : Rooms
   outcome = roomsAnswer n s xs t ys large least room first second

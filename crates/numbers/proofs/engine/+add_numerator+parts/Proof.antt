@@ -1,12 +1,13 @@
 use Prim.Native.Nat.{_*_, _+_, _-_, _<_, _≤_, ℕ}
 use borrow.Rule.Slice.PartMut.{putMid}
 use lib.IntN.{pos, ℤ}
-use lib.ListN.{drop, getD-replicate, length, replicate, take}
+use lib.ListN.{drop, length, replicate, take}
 use lib.Seq.{length-front, length-take-le, take-append-le, take-at}
 use mathlib.Core.Bool.{false≢true}
 use mathlib.Core.List.{List, [], _++_}
 use mathlib.Core.Path.{_∙_, _≡_, ap, refl, subst, sym}
-use Rattle.laws.proofs.Added.{AddedTo, Running, Zeros, running-leaf, running-more, running-none, running-past, zeros-back, zeros-end, zeros-part}
+use Rattle.laws.proofs.Added.{AddedTo, Running, Zeros, running-leaf, running-more, running-none, running-past, zeros-back, zeros-part}
+use Rattle.laws.proofs.Lists.{replicate-constant}
 use Rattle.laws.proofs.Parts.{parts-sums}
 use Rattle.laws.proofs.Room.{above-most, part-enough, part-whole, put-length, put-rows, room-first, room-one, room-parts, room-rest, room-square, room-two}
 use Rattle.laws.proofs.Rows.{rows}
@@ -71,7 +72,8 @@ abbrev cleared : List ℤ
 cleared = replicate 512 (pos 0)
 
 cleared-zeros : Zeros cleared
-cleared-zeros = zeros-end cleared 512 (le-refl 512) (λ k h. getD-replicate 512 k (pos 0) (pos 0) h)
+unfolding Zeros
+cleared-zeros = replicate-constant (pos 0) 512
 
 -- q, the coefficients of the first part, at the front of the array z: as many as are left when trimmed
 trimmed-count : (w r : ℕ) (q z : List ℤ) → length q ≡ length (take w z) → w ≤ length z → r ≡ length (trim (take w (q ++ drop w z))) → r ≡ length (trim q)

@@ -1,7 +1,7 @@
 use borrow.Author.Needs.{needs}
 use lib.Seq.{length-take-le}
 use mathlib.Core.Path.{sym}
-use Rattle.laws.proofs.Columns.{zeros-front}
+use Rattle.laws.proofs.Lists.{replicate-constant, take-constant}
 use Rattle.numbers.proofs.AskedCells.{added-measured, alone-first, one-measured}
 use Rattle.numbers.proofs.extent.extent_of.Statement.{statement}
 use Rattle.numbers.proofs.extent.extent_of.Tie as tie
@@ -22,6 +22,6 @@ extent-of-spec =
     -- slice-aggregate-by-columns
     (λ c. let p5 = c .before .before .before .before .before in sym (length-take-le _ _ (p5 .pre .1)))
     -- by-columns-requires
-    (λ c κs. let p5 = c .before .before .before .before .before in (alone-first (p5 .pre .0), length-take-le _ _ (p5 .pre .1), zeros-front (p5 .args .n) 255))
+    (λ c κs. let p5 = c .before .before .before .before .before in (alone-first (p5 .pre .0), length-take-le _ _ (p5 .pre .1), take-constant 0 _ (p5 .args .n) (replicate-constant 0 255)))
     -- returns-3
     (λ c. let p1 = c .before in let p7 = p1 .before .before .before .before .before .before in let a = p7 .args in one-measured (a .n) (a .s) (a .xs .now) (a .t) (a .ys .now) (p1 .before .before .before .if1 .left) (p1 .by-columns .result .pairs) (p1 .by-columns .result .degree) (p1 .by-columns .ensures)))
