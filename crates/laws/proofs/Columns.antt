@@ -1,28 +1,35 @@
 -- The greatest exponent of each variable, monomial by monomial.
 --   Joined n s cells i us vs  == in vs stands for each of n variables the greatest of its first i exponents in the s monomials, or what us has
+--   Unshared us m v              == no variable below v has an exponent above 0 in both us and m
+--   Single n s cells i        == each of n variables has an exponent above 0 in one of the first i monomials at most: its exponents add up to the greatest
 --   Greatest n L us           == us has for each of n variables its greatest exponent in L
 -- In this file:
 --   joined-none, joined-more  no monomial, and one more
 --   joined-zeros              all, joined with zeros: the greatest of each variable
 --   joined-zero               where it is 0, every monomial has 0
+--   unshared-.., single-..       monomials of which no two have a variable in common, cell by cell and one by one
 --   held-most, greatest-held  what stands in a list is at most its greatest, and that stands in it
 --   distinct-at, degree-greatest, pairs-greatest   the different exponents of a variable, the degree of the lcm and e by these
 --   few-distinct              a greatest of at most 1 is how many different ones other than 0 there are
-use mathlib.Core.Path.{_≡_, refl, sym, ap, _∙_}
+--   single-distinct           numbers that add up to their greatest: one of them at most is not 0
+--   pairs-single              e where no two monomials have a variable in common: how many greatest exponents are not 0
+use mathlib.Core.Path.{_≡_, refl, sym, ap, ap₂, _∙_}
 use mathlib.Core.Bool.{Bool, true, false, _||_, cond, false≢true}
 use mathlib.Core.List.{List, [], _∷_, append-nil}
-use Prim.Native.Nat.{ℕ, zero, suc, _+_, _*_, _≤_, _<_, max}
+use Prim.Native.Nat.{ℕ, zero, suc, _+_, _*_, _≤_, _<_, max, min}
 use native.Mathlib.Omega.{arith}
 use native.Mathlib.Numerals.{add-one}
-use lib.Dec.{eqb}
+use lib.Dec.{eqb, leb}
 use lib.ListN.{length, getD, take}
 use lib.Seq.{take-all}
-use borrow.Author.Tests.{eqb-true, eqb-false}
+use borrow.Author.Tests.{eqb-true, eqb-false, le-leb, lt-leb}
+use Rattle.laws.specs.Count.{bit}
 use Rattle.laws.specs.Ideal.{listed}
 use Rattle.laws.specs.Monomial.{degree, exponent}
 use Rattle.laws.specs.Room.{holds, distinct, column, pairs}
 use Rattle.laws.specs.Sums.{sumBelow}
 use Rattle.laws.proofs.Asked.{both, column-count, column-listed, greatest, sumBelow-ext}
+use Rattle.laws.proofs.Column.{above}
 use Rattle.laws.proofs.Dimension.{degree-sum}
 use Rattle.laws.proofs.Ideal.{listed-count}
 use Rattle.laws.proofs.Rows.{at, at-cell, Wrote}
@@ -58,6 +65,23 @@ few-distinct (x ∷ zs) h = go (eqb x 0) refl (holds x zs) refl (few-distinct zs
     go false e true f i = omega (arith, held-most x zs f)
     go false e false f i = omega (arith, eqb-false x 0 e, none (greatest zs) refl (eqb-false x 0 e) f)
 
+-- numbers that add up to their greatest
+
+greatest-sum : (zs : List ℕ) → greatest zs ≤ degree zs
+greatest-sum [] = omega arith
+greatest-sum (x ∷ zs) = omega (arith, greatest-sum zs)
+
+pub single-distinct : (zs : List ℕ) → degree zs ≡ greatest zs → distinct zs ≡ min (greatest zs) 1
+single-distinct [] h = refl
+single-distinct (x ∷ zs) h = go (eqb x 0) refl (holds x zs) refl (single-distinct zs)
+  where
+    go : (b : Bool) → eqb x 0 ≡ b → (c : Bool) → holds x zs ≡ c → (degree zs ≡ greatest zs → distinct zs ≡ min (greatest zs) 1) → cond (b || c) (distinct zs) (suc (distinct zs)) ≡ min (max x (greatest zs)) 1
+    go true e c f i = omega (arith, eqb-true x 0 e, i (omega (arith, eqb-true x 0 e)))
+    go false e true f i = absurd (omega (arith, eqb-false x 0 e, held-most x zs f, greatest-sum zs))
+    go false e false f i =
+        let z : greatest zs ≡ 0 = omega (arith, eqb-false x 0 e, greatest-sum zs) in
+        omega (arith, eqb-false x 0 e, few-distinct zs (omega arith))
+
 greatest-most : (zs : List ℕ) (i : ℕ) → getD zs i 0 ≤ greatest zs
 greatest-most [] i = omega arith
 greatest-most (x ∷ zs) zero = omega arith
@@ -69,6 +93,12 @@ greatest-take [] (suc k) = refl
 greatest-take (x ∷ xs) zero = omega arith
 greatest-take (x ∷ xs) (suc k) = omega (arith, greatest-take xs k)
 
+degree-take : (xs : List ℕ) (k : ℕ) → degree (take (suc k) xs) ≡ degree (take k xs) + getD xs k 0
+degree-take [] zero = refl
+degree-take [] (suc k) = refl
+degree-take (x ∷ xs) zero = omega arith
+degree-take (x ∷ xs) (suc k) = omega (arith, degree-take xs k)
+
 -- the greatest exponents, monomial by monomial
 
 unfoldable pub Joined : ℕ → ℕ → List ℕ → ℕ → List ℕ → List ℕ → Type 0
@@ -78,19 +108,53 @@ pub joined-none : (n s : ℕ) (cells us : List ℕ) → Joined n s cells 0 us us
 unfolding Joined
 joined-none n s cells us j h = omega arith
 
+-- exponent j of monomial number k
+cell-of : (n s k : ℕ) (cells m : List ℕ) → k < s → m ≡ at n k cells → (j : ℕ) → j < n → getD m j 0 ≡ getD (column (listed n s cells) j) k 0
+cell-of n s k cells m h e j l = ap (λ (y : List ℕ). getD y j 0) e ∙ at-cell n k j cells l ∙ sym (column-listed n s cells j k l h)
+
 pub joined-more : (n s k : ℕ) (cells us vs ws m : List ℕ) → k < s → m ≡ at n k cells → Wrote vs (λ j. max (getD vs j 0) (getD m j 0)) 0 n ws → Joined n s cells k us vs → Joined n s cells (k + 1) us ws
 unfolding Joined
 joined-more n s k cells us vs ws m h e w g j l =
-    rw (add-one k) (omega (arith, here, there, g j l, greatest-take (column (listed n s cells) j) k))
+    rw (add-one k) (omega (arith, here, cell-of n s k cells m h e j l, g j l, greatest-take (column (listed n s cells) j) k))
   where
     here : getD ws j 0 ≡ max (getD vs j 0) (getD m j 0)
     here = let f : j ≡ 0 + j = omega arith in ap (λ (y : ℕ). getD ws y 0) f ∙ w .there j l
 
-    there : getD m j 0 ≡ getD (column (listed n s cells) j) k 0
-    there = ap (λ (y : List ℕ). getD y j 0) e ∙ at-cell n k j cells l ∙ sym (column-listed n s cells j k l h)
+-- monomials of which no two have a variable in common
+
+abbrev pub Unshared : List ℕ → List ℕ → ℕ → Type 0
+Unshared us m v = (j : ℕ) → j < v → min (getD us j 0) (getD m j 0) ≡ 0
+
+pub unshared-none : (us m : List ℕ) → Unshared us m 0
+unshared-none us m j h = absurd (omega arith)
+
+-- c and d are 0 only where there is none below v, and below v + 1
+pub unshared-more : (us m : List ℕ) (v c d : ℕ) → d ≡ max c (min (getD us v 0) (getD m v 0)) → (c ≡ 0 → Unshared us m v) → d ≡ 0 → Unshared us m (v + 1)
+unshared-more us m v c d e f z j h = go (eqb j v) refl
+  where
+    go : (b : Bool) → eqb j v ≡ b → min (getD us j 0) (getD m j 0) ≡ 0
+    go true q = rw (eqb-true j v q) (omega arith)
+    go false q = f (omega arith) j (omega (arith, eqb-false j v q))
+
+unfoldable pub Single : ℕ → ℕ → List ℕ → ℕ → Type 0
+Single n s cells i = (j : ℕ) → j < n → degree (take i (column (listed n s cells) j)) ≡ greatest (take i (column (listed n s cells) j))
+
+pub single-none : (n s : ℕ) (cells : List ℕ) → Single n s cells 0
+unfolding Single
+single-none n s cells j h = refl
+
+pub single-more : (n s k : ℕ) (cells us vs m : List ℕ) → k < s → m ≡ at n k cells → Unshared vs m n → Joined n s cells k us vs → Single n s cells k → Single n s cells (k + 1)
+unfolding Joined Single
+single-more n s k cells us vs m h e a g f j l =
+    rw (add-one k)
+    (omega (arith, a j l, cell-of n s k cells m h e j l, g j l, f j l, greatest-take (column (listed n s cells) j) k, degree-take (column (listed n s cells) j) k))
 
 whole : (n s : ℕ) (cells : List ℕ) (v : ℕ) → take s (column (listed n s cells) v) ≡ column (listed n s cells) v
 whole n s cells v = take-all s (column (listed n s cells) v) (omega (arith, column-count (listed n s cells) v, listed-count n s cells))
+
+-- the columns of the list are also those of it and none behind it
+alone : (n s : ℕ) (cells : List ℕ) (v : ℕ) → take s (column (listed n s cells) v) ≡ column (both n s cells 0 cells) v
+alone n s cells v = whole n s cells v ∙ ap (λ (L : List (List ℕ)). column L v) (sym (append-nil (listed n s cells)))
 
 -- the greatest of each variable of a list
 
@@ -111,6 +175,22 @@ module _ {n : ℕ} {L : List (List ℕ)} {us : List ℕ} (g : Greatest n L us) w
       degree-sum n us (g .len)
       ∙ sumBelow-ext n (exponent us) (λ v. distinct (column L v)) (λ v h. sym (distinct-at v h (omega (arith, greatest-most us v))))
 
+  pub pairs-single : ((v : ℕ) → v < n → degree (column L v) ≡ greatest (column L v)) → above 1 0 1 us n ≡ pairs n L
+  pairs-single f = go n (omega arith)
+    where
+      some : (x d : ℕ) → d ≡ min x 1 → bit (leb 1 x) ≡ d
+      some zero d e = omega (arith, ap bit (lt-leb 1 0 (omega arith)))
+      some (suc x) d e = omega (arith, ap bit (le-leb 1 (suc x) (omega arith)))
+
+      one : (v : ℕ) → v < n → bit (leb 1 (getD us (v * 1 + 0) 0)) ≡ distinct (column L v)
+      one v h =
+          let e : v * 1 + 0 ≡ v = omega arith in
+          rw e (some (getD us v 0) (distinct (column L v)) (single-distinct (column L v) (f v h) ∙ ap (λ (x : ℕ). min x 1) (sym (g .each v h))))
+
+      go : (k : ℕ) → k ≤ n → above 1 0 1 us k ≡ sumBelow k (λ v. distinct (column L v))
+      go zero h = refl
+      go (suc k) h = ap₂ _+_ (one k (omega arith)) (go k (omega arith))
+
 -- the monomials of a list, joined with zeros
 pub joined-zeros : (n s : ℕ) (cells us vs : List ℕ) → length us ≡ n → ((j : ℕ) → getD us j 0 ≡ 0) → (length vs ≡ length us) × Joined (length us) s cells s us vs → Greatest n (both n s cells 0 cells) vs
 unfolding Joined
@@ -120,12 +200,12 @@ joined-zeros n s cells us vs e z f =
       each = λ v h. omega (arith, f .1 v (omega arith), z v, same v);
     }
   where
-    -- the columns of the list are also those of it and none behind it
     same : (v : ℕ) → greatest (take s (column (listed (length us) s cells) v)) ≡ greatest (column (both n s cells 0 cells) v)
-    same v =
-        rw e
-        (ap greatest (whole n s cells v)
-        ∙ ap (λ (L : List (List ℕ)). greatest (column L v)) (sym (append-nil (listed n s cells))))
+    same v = rw e (ap greatest (alone n s cells v))
+
+pub single-all : (n s : ℕ) (cells : List ℕ) → Single n s cells s → (v : ℕ) → v < n → degree (column (both n s cells 0 cells) v) ≡ greatest (column (both n s cells 0 cells) v)
+unfolding Single
+single-all n s cells f v h = rw (sym (alone n s cells v)) (f v h)
 
 pub joined-zero : (n s : ℕ) (cells us vs : List ℕ) → Joined n s cells s us vs → (i j : ℕ) → i < s → j < n → getD vs j 0 ≡ 0 → getD cells (i * n + j) 0 ≡ 0
 unfolding Joined

@@ -2,7 +2,7 @@
 --   keep us m                 == the exponents of m at the variables where us is not 0
 --   Marks us m                == where us is 0, m is 0
 --   Placing us v ps w         == the first w of ps are the places below v at which us is not 0
---   Kept n w us cells xs i ys == ys is as long as xs and has at its front the first i monomials of the cells, each without the variables where us is 0
+--   Kept n w ps cells xs i ys == ys is as long as xs and has at its front of each of the first i monomials of the cells the exponents at the first w of ps
 --   Narrowed n s cells xs w ys == at the front of ys lie s monomials of width w with the numerator of the s in the cells
 -- In this file:
 --   keep-degree, keep-quotient, keep-numerator   what is kept where us marks all
@@ -189,23 +189,22 @@ placing-on us v ps w h r g p =
         ap (λ (k : ℕ). getD m k 0) (same j l (eqb-false j w q)) ∙ p .picks m e j (omega (arith, eqb-false j w q))
 
 -- the monomials, written one after another
-pub record Kept (n w : ℕ) (us cells xs : List ℕ) (i : ℕ) (ys : List ℕ) : Type 0 where
+pub record Kept (n w : ℕ) (ps cells xs : List ℕ) (i : ℕ) (ys : List ℕ) : Type 0 where
   pub len : length ys ≡ length xs
-  pub done : (t j : ℕ) → t < i → j < w → getD ys (t * w + j) 0 ≡ getD (keep us (at n t cells)) j 0
+  pub done : (t j : ℕ) → t < i → j < w → getD ys (t * w + j) 0 ≡ getD (at n t cells) (getD ps j 0) 0
 
-pub kept-none : (n w : ℕ) (us cells xs : List ℕ) → Kept n w us cells xs 0 xs
-kept-none n w us cells xs = record { len = refl; done = λ t j h. absurd (omega arith) }
+pub kept-none : (n w : ℕ) (ps cells xs : List ℕ) → Kept n w ps cells xs 0 xs
+kept-none n w ps cells xs = record { len = refl; done = λ t j h. absurd (omega arith) }
 
-pub kept-more : (n w : ℕ) (us cells xs : List ℕ) (i : ℕ) (ys zs ps m : List ℕ) → m ≡ at n i cells → length m ≡ length us → Placing us (length us) ps w
-    → Wrote ys (λ j. getD m (getD ps j 0) 0) (i * w) w zs → Kept n w us cells xs i ys → Kept n w us cells xs (i + 1) zs
-kept-more n w us cells xs i ys zs ps m p e a o k =
+pub kept-more : (n w : ℕ) (ps cells xs : List ℕ) (i : ℕ) (ys zs m : List ℕ) → m ≡ at n i cells → Wrote ys (λ j. getD m (getD ps j 0) 0) (i * w) w zs → Kept n w ps cells xs i ys → Kept n w ps cells xs (i + 1) zs
+kept-more n w ps cells xs i ys zs m p o k =
     record {
       len = o .len ∙ k .len;
       done = λ t j h l. go t j h l (eqb t i) refl;
     }
   where
-    go : (t j : ℕ) → t < i + 1 → j < w → (b : Bool) → eqb t i ≡ b → getD zs (t * w + j) 0 ≡ getD (keep us (at n t cells)) j 0
-    go t j h l true q = rw (eqb-true t i q) (o .there j l ∙ a .picks m e j l ∙ ap (λ (y : List ℕ). getD (keep us y) j 0) p)
+    go : (t j : ℕ) → t < i + 1 → j < w → (b : Bool) → eqb t i ≡ b → getD zs (t * w + j) 0 ≡ getD (at n t cells) (getD ps j 0) 0
+    go t j h l true q = rw (eqb-true t i q) (o .there j l ∙ ap (λ (y : List ℕ). getD y (getD ps j 0) 0) p)
     go t j h l false q =
         o .other (t * w + j) (apart w i t j (eqb-false t i q) l) ∙ k .done t j (omega (arith, eqb-false t i q)) l
 
@@ -229,7 +228,7 @@ narrowed-copy n s cells xs ys l r w =
         ap (λ (k : ℕ). getD ys k 0) f ∙ w .there j (omega arith)
 
 pub narrowed-kept : (n s : ℕ) (zs us cells xs : List ℕ) (w : ℕ) (ys ps : List ℕ) → length us ≡ n → length cells ≡ s * n → s * n ≤ length xs → Joined n s cells s zs us → Placing us (length us) ps w
-    → Kept n w us cells xs s ys → Narrowed n s cells xs w ys
+    → Kept n w ps cells xs s ys → Narrowed n s cells xs w ys
 narrowed-kept n s zs us cells xs w ys ps e l r u p k =
     record {
       len = k .len;
@@ -253,7 +252,7 @@ narrowed-kept n s zs us cells xs w ys ps e l r u p k =
     here i h =
         let a : length (at w i ys) ≡ w = at-length w s i ys h fits in
         ext-getD 0 (at w i ys) (keep us (at n i cells)) (a ∙ sym (wide i h))
-        (λ j g. let q : j < w = omega (arith, a) in at-cell w i j ys q ∙ k .done i j h q)
+        (λ j g. let q : j < w = omega (arith, a) in at-cell w i j ys q ∙ k .done i j h q ∙ p .picks (at n i cells) (row i h ∙ sym e) j q)
 
     all : (i : ℕ) → i ≤ s → rows w i ys ≡ map (keep us) (rows n i cells)
     all zero h = refl

@@ -1,10 +1,12 @@
 // The greatest of exponents: of all in a list of cells, or for each variable.
+use crate::minimal::less;
 use crate::rows::row;
 ghost use mathlib.Core.Path.{_≡_};
-ghost use Prim.Native.Nat.{_*_, _≤_, max};
+ghost use Prim.Native.Nat.{_*_, _<_, _≤_, max};
 ghost use lib.ListN.{length, getD};
 ghost use Rattle.laws.proofs.Asked.{greatest};
-ghost use Rattle.laws.proofs.Columns.{Joined};
+ghost use Rattle.laws.proofs.Column.{above};
+ghost use Rattle.laws.proofs.Columns.{Unshared, Joined, Single};
 ghost use Rattle.laws.proofs.Rows.{Wrote};
 
 // The greater of two exponents.
@@ -27,27 +29,55 @@ pub(crate) fn greatest_of(cells: &[u16]) -> u16
     best
 }
 
-// The greater exponent of the two, for each variable.
-fn join(us: &mut [u16], m: &[u16])
-    requires { ⌜ length (now us) ≤ length (now m) ⌝ }
-    ensures { λ _. ⌜ Wrote (now (us .entry)) (λ j. max (getD (now (us .entry)) j 0) (getD (now (m .entry)) j 0)) 0 (length (now (us .entry))) (now (us .exit)) ⌝ }
+// How many exponents are not 0, in a word as wide as theirs, which a compiler counts in many at once.
+pub(crate) fn used(us: &[u16]) -> u16
+    requires { ⌜ length (now us) < 65536 ⌝ }
+    ensures { λ r. ⌜ r ≡ above 1 0 1 (now (us .entry)) (length (now (us .entry))) ⌝ }
 {
+    let mut count: u16 = 0;
     let mut v: usize = 0;
     while v < us.len() {
-        us[v] = greater(us[v], m[v]);
+        if us[v] > 0 {
+            count += 1;
+        }
         v += 1;
     }
+    count
 }
 
-// The greatest exponent of each variable in the s monomials, or what us has, where that is greater.
-pub(crate) fn join_all(us: &mut [u16], s: usize, cells: &[u16])
+// The greater exponent of the two, for each variable. The answer is 0 where no variable is in both.
+fn join(us: &mut [u16], m: &[u16]) -> u16
+    requires { ⌜ length (now us) ≤ length (now m) ⌝ }
+    ensures { λ _. ⌜ Wrote (now (us .entry)) (λ j. max (getD (now (us .entry)) j 0) (getD (now (m .entry)) j 0)) 0 (length (now (us .entry))) (now (us .exit)) ⌝ }
+    ensures { λ r. ⌜ (r ≡ 0 → Unshared (now (us .entry)) (now (m .entry)) (length (now (us .entry)))) ⌝ }
+{
+    let mut common: u16 = 0;
+    let mut v: usize = 0;
+    while v < us.len() {
+        let x = us[v];
+        let y = m[v];
+        // what y is above x: with it x is the greater of the two, and without it y the lesser
+        let above = less(y, x);
+        common = greater(common, y - above);
+        us[v] = x + above;
+        v += 1;
+    }
+    common
+}
+
+// The greatest exponent of each variable in the s monomials, or what us has, where that is greater. The answer is 0 where no variable is in two
+// of them or in one and us.
+pub(crate) fn join_all(us: &mut [u16], s: usize, cells: &[u16]) -> u16
     requires { ⌜ s * length (now us) ≤ length (now cells) ⌝ }
     ensures { λ _. ⌜ (length (now (us .exit)) ≡ length (now (us .entry))) × Joined (length (now (us .entry))) s (now (cells .entry)) s (now (us .entry)) (now (us .exit)) ⌝ }
+    ensures { λ r. ⌜ (r ≡ 0 → Single (length (now (us .entry))) s (now (cells .entry)) s) ⌝ }
 {
     let n = us.len();
+    let mut common: u16 = 0;
     let mut i: usize = 0;
     while i < s {
-        join(us, row(cells, n, i));
+        common = greater(common, join(us, row(cells, n, i)));
         i += 1;
     }
+    common
 }

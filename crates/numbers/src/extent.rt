@@ -3,6 +3,7 @@
 use crate::columns::greater;
 use crate::columns::greatest_of;
 use crate::columns::join_all;
+use crate::columns::used;
 use crate::leaf::degree;
 use crate::minimal::less;
 ghost use mathlib.Core.Bool.{cond};
@@ -116,17 +117,20 @@ fn pairs_by_columns(n: usize, s: usize, cells: &[u16], us: &[u16]) -> usize
     pairs
 }
 
-// One list, by way of its lcm, which is written to us, zeros before. Where it has no square there are as many pairs as its degree tells.
+// One list, by way of its lcm, which is written to us, zeros before. Where it has no square there are as many pairs as its degree tells, and
+// where no variable is in two monomials as many as it has variables.
 fn by_columns(n: usize, s: usize, cells: &[u16], us: &mut [u16]) -> Extent
     requires { ⌜ Lists n s (now cells) 0 (now cells) × (length (now us) ≡ n) × ((v : ℕ) → getD (now us) v 0 ≡ 0) ⌝ }
     ensures { λ r. ⌜ Measured n (both n s (now (cells .entry)) 0 (now (cells .entry))) (r .pairs) (r .degree) ⌝ }
 {
-    join_all(us, s, cells);
+    let common = join_all(us, s, cells);
     let degree = degree(us);
-    let pairs = if greatest_of(us) > 1 {
-        pairs_by_columns(n, s, cells, us)
-    } else {
+    let pairs = if greatest_of(us) < 2 {
         degree
+    } else if common == 0 {
+        used(us) as usize
+    } else {
+        pairs_by_columns(n, s, cells, us)
     };
     Extent { pairs, degree }
 }
