@@ -61,13 +61,13 @@ fn quotient_degree(a: &[u16], b: &[u16]) -> usize
     requires { ⌜ (length (now a) ≡ length (now b)) × (length (now a) ≤ 65536) ⌝ }
     ensures { λ r. ⌜ (r ≡ degreeOf (quotient (now (a .entry)) (now (b .entry)))) × (r ≤ 4294901760) ⌝ }
 {
-    let mut d: usize = 0;
+    let mut d: u32 = 0;
     let mut i: usize = 0;
     while i < a.len() {
-        d += less(a[i], b[i]) as usize;
+        d += less(a[i], b[i]) as u32;
         i += 1;
     }
-    d
+    d as usize
 }
 
 // t^shift times 1 - t^d times the seed, added to out or taken off it, cut at its length.

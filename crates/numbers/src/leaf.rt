@@ -19,13 +19,13 @@ pub(crate) fn degree(a: &[u16]) -> usize
     requires { ⌜ length (now a) ≤ 65536 ⌝ }
     ensures { λ r. ⌜ (r ≡ degreeOf (now (a .entry))) × (r ≤ 4294901760) ⌝ }
 {
-    let mut d: usize = 0;
+    let mut d: u32 = 0;
     let mut i: usize = 0;
     while i < a.len() {
-        d += a[i] as usize;
+        d += a[i] as u32;
         i += 1;
     }
-    d
+    d as usize
 }
 
 // c times 1 - t^a, cut at its length.
