@@ -9,7 +9,7 @@ use mathlib.Core.Bool.{Bool, true, false, not, _||_, cond, false≢true}
 use mathlib.Core.List.{List, [], _∷_, _++_, append-nil}
 use mathlib.Core.Option.{Option, none, some}
 use Prim.Native.Nat.{ℕ, zero, suc, _*_, _%_, _^_, _≤_, _<_}
-use native.Mathlib.Nat.{le-trans, mod-eq-of-lt, mod-mod}
+use native.Mathlib.Nat.{le-refl, le-trans, mod-eq-of-lt, mod-mod}
 use native.Mathlib.Omega.{arith}
 use lib.Dec.{leb, ltb, eqb, lit<, lit≤}
 use lib.IntN.{ℤ, pos}
@@ -34,7 +34,7 @@ use Rattle.monomials.specs.declared.refusal.Refusal.the-variants.{Width, Count,
 use Rattle.numbers.specs.Wide.{wide, wideOf}
 use Rattle.numbers.specs.Numerator.{wiped, tooMany, notCells, listChecks}
 use Rattle.numbers.specs.Dimension.{dimensionIs, atOnce, noDimension, boundChecks, roomChecks, dimensionChecks, dimensionAnswer, dimensionRoom, dimensionFirst, dimensionSecond, dimensionSums}
-use Rattle.numbers.specs.DimensionParts.{Bounded, checkedIs, boundAnswer, listAnswer}
+use Rattle.numbers.specs.DimensionParts.{Bounded, Cells as CellsOf, checkedIs, boundAnswer, listAnswer}
 use Rattle.numbers.specs.declared.wide.Wide.{Wide}
 use Rattle.numbers.specs.declared.powers.Checked.{Checked}
 use Rattle.numbers.specs.declared.dimension.DimensionOutcome.{DimensionOutcome}
@@ -256,6 +256,19 @@ module _ (W C M n s : ℕ) (cells : List ℕ) where
     passes-bound o =
         let (a, b, c) = is-list in
         rw (le-ltb W n a, le-ltb C s b, eq-eqb (length cells) (s * n) c, o) at e
+
+-- a list whose degree bound is d
+pub record Found (n s : ℕ) (cells : List ℕ) (d : ℕ) : Type 0 where
+  pub none : decides 255 60 65536 n s cells ≡ none
+  pub later : atOnce n (listed n s cells) ≡ false
+  pub there : CellsOf n s cells
+  pub bounded : Bounded n (listed n s cells) d
+
+pub found : (n s : ℕ) (cells : List ℕ) (w : Checked) (d : ℕ) → w ≡ listAnswer 255 60 65536 n s cells → w ≡ Checked.Bound d → Found n s cells d
+found n s cells w d f g =
+    let (e, o, b) = is-bound (decides 255 60 65536 n s cells) (atOnce n (listed n s cells)) (dimension n (listed n s cells)) (degreeBound n (listed n s cells)) d (sym f ∙ g) in
+    let (h, k, l) = is-list 255 60 65536 n s cells e in
+    record { none = e; later = o; there = record { there = l; width = h; count = k }; bounded = bounded 65536 n (listed n s cells) d (is-plain 255 60 65536 n s cells e o) (le-refl 65536) (passes-bound 255 60 65536 n s cells e o) b }
 
 module _ (W C M n s : ℕ) (cells room : List ℕ) (p q : List ℤ) (sums : List ℕ) where
   abbrev pub Outcome : DimensionAnswer → List ℕ → List ℤ → List ℤ → List ℕ → Type 0

@@ -5,7 +5,6 @@
 --   boundAnswer M n L    == D, or the refusal by 13 or 11
 --   BoundOf M n powers r == r is that answer for any list with these powers
 --   listAnswer W C M n s cells == the refusal by 1, 2 or 3, the dimension where it is known at once, or else that answer
---   roomRefusal n s cells room p q sums == the refusal for want of room, if any
 --   Bounded n L d        == L has a dimension below 2^127, and D is d
 --   Lent n L d room p q sums == the rooms have the sizes asked
 -- Assumes nothing.
@@ -21,7 +20,7 @@ use Rattle.laws.specs.Dimension.{leastPower, finite, degreeBound, powersProduct
 use Rattle.laws.specs.Room.{cellsAsked, coefficientsAsked, dimensionWords}
 use Rattle.monomials.specs.Refusal.{refusal}
 use Rattle.monomials.specs.declared.refusal.Refusal.{Refusal}
-use Rattle.numbers.specs.Dimension.{atOnce, boundChecks, roomChecks}
+use Rattle.numbers.specs.Dimension.{atOnce, boundChecks}
 use Rattle.numbers.specs.Numerator.{listChecks}
 use Rattle.numbers.specs.Wide.{wide}
 use Rattle.numbers.specs.declared.powers.Checked.{Checked}
@@ -48,9 +47,6 @@ BoundOf M n powers r = (L : List (List ℕ)) → Powers n L powers → r ≡ bou
 abbrev pub listAnswer : ℕ → ℕ → ℕ → ℕ → ℕ → List ℕ → Checked
 listAnswer W C M n s cells =
     checkedIs (refusal (listChecks W C n s cells ++ cond (atOnce n (listed n s cells)) [] (boundChecks M n (listed n s cells)))) (atOnce n (listed n s cells)) (dimension n (listed n s cells)) (degreeBound n (listed n s cells))
-
-abbrev pub roomRefusal : ℕ → ℕ → List ℕ → List ℕ → List ℤ → List ℤ → List ℕ → Option Refusal
-roomRefusal n s cells room p q sums = refusal (roomChecks n (listed n s cells) room p q sums)
 
 pub record Bounded (n : ℕ) (L : List (List ℕ)) (d : ℕ) : Type 0 where
   pub plain : unitIn L ≡ false

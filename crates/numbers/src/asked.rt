@@ -4,6 +4,8 @@ use crate::extent::extent_of;
 use monomials::refusal::MAX_COUNT;
 use monomials::refusal::MAX_WIDTH;
 use monomials::refusal::Refusal;
+ghost use mathlib.Core.Bool.{false};
+ghost use mathlib.Core.List.{[]};
 ghost use mathlib.Core.Path.{_≡_};
 ghost use Prim.Native.Nat.{_≤_, max};
 ghost use Rattle.laws.specs.Room.{cellsAsked, coefficientsAsked};
@@ -81,4 +83,18 @@ pub(crate) fn checked(
         return Rooms::Refused(Refusal::CoefficientRoom);
     }
     Rooms::Asked(a)
+}
+
+// The checks of a call on one list.
+pub(crate) fn checked_list(
+    n: usize,
+    s: usize,
+    cells: &[u16],
+    room: usize,
+    first: usize,
+    second: usize,
+) -> Rooms
+    ensures { λ r. ⌜ r ≡ roomsAnswer n s (now (cells .entry)) 0 [] false 0 room first second ⌝ }
+{
+    checked(n, s, cells, 0, &cells[0..0], false, 0, room, first, second)
 }

@@ -1,7 +1,7 @@
 // The dimension of a list's quotient: how many monomials are no multiple of the list. They are counted degree by degree, from the numerator
 // by prefix sums modulo 2^128; the count is exact, because it is at most the product of the least powers, which is below 2^127.
 use crate::asked::Rooms;
-use crate::asked::checked;
+use crate::asked::checked_list;
 use crate::hf_at::MAX_DEGREE;
 use crate::hf_at::Terms;
 use crate::hf_at::prefix_sum;
@@ -17,13 +17,10 @@ use monomials::refusal::Refusal;
 ghost use mathlib.Core.Path.{_≡_};
 ghost use lib.IntN.{pos};
 ghost use lib.ListN.{length, replicate};
-ghost use Rattle.laws.specs.Dimension.{degreeBound, dimension as dimensionOf};
+ghost use Rattle.laws.specs.Dimension.{dimension as dimensionOf};
 ghost use Rattle.laws.specs.Ideal.{listed};
-ghost use Rattle.laws.specs.Room.{cellsAsked, coefficientsAsked, dimensionWords};
-ghost use Rattle.monomials.specs.Refusal.{after};
-ghost use Rattle.numbers.specs.Dimension.{dimensionAnswer, dimensionRoom, dimensionFirst, dimensionSecond, dimensionSums, dimensionIs};
-ghost use Rattle.numbers.specs.DimensionParts.{Cells, Bounded, Lent, listAnswer, roomRefusal};
-ghost use Rattle.numbers.specs.Numerator.{wiped};
+ghost use Rattle.numbers.specs.Dimension.{dimensionAnswer, dimensionRoom, dimensionFirst, dimensionSecond, dimensionSums};
+ghost use Rattle.numbers.specs.DimensionParts.{Cells, Bounded, Lent, listAnswer};
 ghost use Rattle.numbers.specs.Wide.{wide};
 
 // A dimension, and the top degree beside it.
@@ -59,9 +56,33 @@ pub fn quotient_dimension(
     ensures { λ r. do ⌜ now (second .exit) ≡ dimensionSecond (← ⟦MAX_WIDTH⟧ .entry) (← ⟦MAX_COUNT⟧ .entry) (← ⟦MAX_DEGREE⟧ .entry) n s (now (cells .entry)) (now (room .entry)) (now (first .entry)) (now (second .entry)) (now (sums .entry)) ⌝ }
     ensures { λ r. do ⌜ now (sums .exit) ≡ dimensionSums (← ⟦MAX_WIDTH⟧ .entry) (← ⟦MAX_COUNT⟧ .entry) (← ⟦MAX_DEGREE⟧ .entry) n s (now (cells .entry)) (now (room .entry)) (now (first .entry)) (now (second .entry)) (now (sums .entry)) ⌝ }
 {
-    let c = decided(n, s, cells);
-    match c {
-        Checked::Bound(d) => in_rooms(n, s, cells, d, room, first, second, sums),
+    let known = decided(n, s, cells);
+    match known {
+        Checked::Bound(d) => {
+            let rooms = checked_list(n, s, cells, room.len(), first.len(), second.len());
+            match rooms {
+                Rooms::Asked(a) => {
+                    let c = a.cells;
+                    let k = a.coefficients;
+                    let w = 2 * (d + 1);
+                    if sums.len() < w {
+                        return refused(Refusal::SumRoom);
+                    }
+                    let r = dimension_in(
+                        n,
+                        s,
+                        cells,
+                        d,
+                        &mut room[..c],
+                        &mut first[..k],
+                        &mut second[..k],
+                        &mut sums[..w],
+                    );
+                    answered(r, d as u64)
+                }
+                Rooms::Refused(r) => refused(r),
+            }
+        }
         Checked::Known(dimension) => answered(dimension, 0),
         Checked::Refused(r) => refused(r),
     }
@@ -107,60 +128,6 @@ fn answered(dimension: Wide, top: u64) -> DimensionAnswer
             dimension: dimension,
             top: top,
         }),
-    }
-}
-
-// The dimension of a list whose degree bound is d, where the rooms suffice.
-fn in_rooms(
-    n: usize,
-    s: usize,
-    cells: &[u16],
-    d: usize,
-    room: &mut [u16],
-    first: &mut [i64],
-    second: &mut [i64],
-    sums: &mut [u64],
-) -> DimensionAnswer
-    requires { ⌜ Cells n s (now cells) × Bounded n (listed n s (now cells)) d ⌝ }
-    ensures { λ r. ⌜ r ≡ dimensionIs (roomRefusal n s (now (cells .entry)) (now (room .entry)) (now (first .entry)) (now (second .entry)) (now (sums .entry))) n (listed n s (now (cells .entry))) ⌝ }
-    ensures { λ _. ⌜ now (room .exit) ≡ after (roomRefusal n s (now (cells .entry)) (now (room .entry)) (now (first .entry)) (now (second .entry)) (now (sums .entry))) (wiped 0 (cellsAsked n (listed n s (now (cells .entry)))) (now (room .entry))) (now (room .entry)) ⌝ }
-    ensures { λ _. ⌜ now (first .exit) ≡ after (roomRefusal n s (now (cells .entry)) (now (room .entry)) (now (first .entry)) (now (second .entry)) (now (sums .entry))) (wiped (pos 0) (coefficientsAsked (listed n s (now (cells .entry)))) (now (first .entry))) (now (first .entry)) ⌝ }
-    ensures { λ _. ⌜ now (second .exit) ≡ after (roomRefusal n s (now (cells .entry)) (now (room .entry)) (now (first .entry)) (now (second .entry)) (now (sums .entry))) (wiped (pos 0) (coefficientsAsked (listed n s (now (cells .entry)))) (now (second .entry))) (now (second .entry)) ⌝ }
-    ensures { λ _. ⌜ now (sums .exit) ≡ after (roomRefusal n s (now (cells .entry)) (now (room .entry)) (now (first .entry)) (now (second .entry)) (now (sums .entry))) (wiped 0 (dimensionWords (degreeBound n (listed n s (now (cells .entry))))) (now (sums .entry))) (now (sums .entry)) ⌝ }
-{
-    let rooms = checked(
-        n,
-        s,
-        cells,
-        0,
-        &cells[0..0],
-        false,
-        0,
-        room.len(),
-        first.len(),
-        second.len(),
-    );
-    match rooms {
-        Rooms::Asked(a) => {
-            let c = a.cells;
-            let k = a.coefficients;
-            let w = 2 * (d + 1);
-            if sums.len() < w {
-                return refused(Refusal::SumRoom);
-            }
-            let r = dimension_in(
-                n,
-                s,
-                cells,
-                d,
-                &mut room[..c],
-                &mut first[..k],
-                &mut second[..k],
-                &mut sums[..w],
-            );
-            answered(r, d as u64)
-        }
-        Rooms::Refused(r) => refused(r),
     }
 }
 

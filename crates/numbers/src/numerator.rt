@@ -1,6 +1,6 @@
 // The numerator of a list. The rooms' asked sizes are those of the list as given; after a refusal every cell holds what it held.
 use crate::asked::Rooms;
-use crate::asked::checked;
+use crate::asked::checked_list;
 use crate::coefficients::trimmed_length;
 use crate::engine::add_numerator;
 use crate::leaf::zero;
@@ -45,18 +45,7 @@ pub fn hilbert_numerator(
     ensures { λ r. do ⌜ now (first .exit) ≡ numeratorFirst (← ⟦MAX_WIDTH⟧ .entry) (← ⟦MAX_COUNT⟧ .entry) n s (now (cells .entry)) (now (room .entry)) (now (first .entry)) (now (second .entry)) ⌝ }
     ensures { λ r. do ⌜ now (second .exit) ≡ numeratorSecond (← ⟦MAX_WIDTH⟧ .entry) (← ⟦MAX_COUNT⟧ .entry) n s (now (cells .entry)) (now (room .entry)) (now (first .entry)) (now (second .entry)) ⌝ }
 {
-    let rooms = checked(
-        n,
-        s,
-        cells,
-        0,
-        &cells[0..0],
-        false,
-        0,
-        room.len(),
-        first.len(),
-        second.len(),
-    );
+    let rooms = checked_list(n, s, cells, room.len(), first.len(), second.len());
     match rooms {
         Rooms::Asked(a) => {
             let c = a.cells;
