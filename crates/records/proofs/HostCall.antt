@@ -1,12 +1,12 @@
 -- The steps behind the host call, in the words of its contract.
 --   first-passes, both-pass        where nothing is refused no check holds
---   larger-rooms, own-rooms        an answer that is a dimension is the same in rooms as large or larger, and so in the call's own
+--   larger-rooms, own-rooms        a dimension is told alike of rooms as large or larger, and so of the call's own
 --   dimension-small                a dimension that is not refused is below 2^127, and its top degree at most M
 --   top-fits                       so the top degree of a record's answer fits four bytes
 --   short-is                       what the contract says where the output has no room for an answer record
 --   roomy, roomy-bytes, told-is    and where it has: 12 and the dimension's checks decide, and the record's answer is written
---   tell-done, tell-refused        how an answer is told
---   done-number, refused-number    the number of the call's answer
+--   told-written                   how an answer is told
+--   status-is                      the number of the call's answer
 --   copied-shape, copied-refused   what copying a record into cells enough for every record tells
 --   record-area, record-fits       how many cells these are
 --   record-dimension, no-record-dimension   the dimension of what was copied is the record's answer
@@ -37,14 +37,12 @@ use Rattle.monomials.specs.declared.refusal.Refusal.the-variants.{Width as TooW
 use Rattle.numbers.specs.Wide.{value, wide}
 use Rattle.numbers.specs.Numerator.{listChecks, tooMany, notCells, cellRoom, coefficientRooms}
 use Rattle.numbers.specs.Dimension.{atOnce, noDimension, boundChecks, sumRoom, roomChecks, dimensionChecks, dimensionAnswer, dimensionIs}
-use Rattle.numbers.specs.declared.dimension.Dimension.{Dimension as DimensionValue}
-use Rattle.numbers.specs.declared.dimension.DimensionOutcome.{DimensionOutcome}
-use Rattle.numbers.specs.declared.dimension.DimensionAnswer.{DimensionAnswer}
 use Rattle.records.specs.Answer.{answerOf, answerBytes}
 use Rattle.records.specs.Ideal.{checkAnswer, shapeAnswer, notRecord, copyChecks, copyAnswer, copyCells}
 use Rattle.records.specs.Host.{ownCells, ownCoefficients, ownWords, recordChecks, hostChecks, status, hostAnswer, hostNumber, hostBytes}
-use Rattle.records.specs.HostParts.{recordAnswer, topOf, TopFits, outcomeOf, toldAs, bytesOf, toldBytes}
+use Rattle.records.specs.HostParts.{recordAnswer, refusedAs, statusOf, toldBytes, toldOf}
 use Rattle.records.specs.Rows.{Ample}
+use Rattle.records.specs.declared.host.Told.{Told}
 use Rattle.records.specs.declared.ideal.CheckOutcome.{CheckOutcome}
 use Rattle.records.specs.declared.ideal.CheckAnswer.{CheckAnswer}
 use Rattle.records.specs.declared.ideal.Shape.{Shape}
@@ -80,9 +78,9 @@ still-pass (c ∷ cs) ds p q = let (h, g) = first-passes c cs p in rw h (still-p
 
 -- rooms as large or larger
 
-value-of : (r r' : Option Refusal) (n : ℕ) (L : List (List ℕ)) → (r ≡ none → r' ≡ none) → (a : DimensionAnswer) (d : DimensionValue) → a ≡ dimensionIs r n L → a .outcome ≡ DimensionOutcome.Value d → record { outcome = DimensionOutcome.Value d } ≡ dimensionIs r' n L
-value-of none r' n L f a d e v = rw (f refl) (ap (λ (o : DimensionOutcome). record { outcome = o }) (sym v ∙ ap (λ (b : DimensionAnswer). b .outcome) e))
-value-of (some r) r' n L f a d e v = let z : _≡_ {A = ℕ} 0 1 = cc (sym v ∙ ap (λ (b : DimensionAnswer). b .outcome) e) in absurd (omega arith)
+done-of : (r r' : Option Refusal) (n : ℕ) (L : List (List ℕ)) → (r ≡ none → r' ≡ none) → (a : Told) → a ≡ toldOf (dimensionIs r n L) → a .outcome ≡ CheckOutcome.Done → a ≡ toldOf (dimensionIs r' n L)
+done-of none r' n L f a e v = rw (f refl) e
+done-of (some r) r' n L f a e v = let z : _≡_ {A = ℕ} 0 1 = cc (sym v ∙ ap (λ (b : Told). b .outcome) e) in absurd (omega arith)
 
 either-false : (a : Bool) → (a || a) ≡ false → a ≡ false
 either-false true e = e
@@ -110,20 +108,18 @@ module _ (room room' : List ℕ) (p p' : List ℤ) (sums sums' : List ℕ) (h : 
           let (x, y) = both-pass (boundChecks M n (listed n s cells)) (roomChecks n (listed n s cells) room p p sums) b in
           still-pass (boundChecks M n (listed n s cells)) (roomChecks n (listed n s cells) room' p' p' sums') x (rooms-pass n (listed n s cells) y)
 
-  larger-rooms : (W C M n s : ℕ) (cells : List ℕ) (a : DimensionAnswer) (d : DimensionValue) → a ≡ dimensionAnswer W C M n s cells room p p sums → a .outcome ≡ DimensionOutcome.Value d → record { outcome = DimensionOutcome.Value d } ≡ dimensionAnswer W C M n s cells room' p' p' sums'
-  larger-rooms W C M n s cells = value-of (refusal (dimensionChecks W C M n s cells room p p sums)) (refusal (dimensionChecks W C M n s cells room' p' p' sums')) n (listed n s cells) (checks-pass W C M n s cells)
+  larger-rooms : (W C M n s : ℕ) (cells : List ℕ) (a : Told) → a ≡ toldOf (dimensionAnswer W C M n s cells room p p sums) → a .outcome ≡ CheckOutcome.Done → a ≡ toldOf (dimensionAnswer W C M n s cells room' p' p' sums')
+  larger-rooms W C M n s cells = done-of (refusal (dimensionChecks W C M n s cells room p p sums)) (refusal (dimensionChecks W C M n s cells room' p' p' sums')) n (listed n s cells) (checks-pass W C M n s cells)
 
 -- the call's own rooms hold more than rooms of these sizes
-pub own-rooms : (k j i : ℕ) → k ≤ 16384 → j ≤ 4096 → i ≤ 4096 → (W C M n s : ℕ) (cells : List ℕ) (a : DimensionAnswer) (d : DimensionValue)
-    → a ≡ dimensionAnswer W C M n s cells (replicate k 0) (replicate j (pos 0)) (replicate j (pos 0)) (replicate i 0) → a .outcome ≡ DimensionOutcome.Value d
-    → a ≡ dimensionAnswer W C M n s cells ownCells ownCoefficients ownCoefficients ownWords
-own-rooms k j i h g f W C M n s cells a d e v =
-    ap {B = DimensionAnswer} (λ (o : DimensionOutcome). record { outcome = o }) v
-    ∙ larger-rooms (replicate k 0) ownCells (replicate j (pos 0)) ownCoefficients (replicate i 0) ownWords
+pub own-rooms : (k j i : ℕ) → k ≤ 16384 → j ≤ 4096 → i ≤ 4096 → (W C M n s : ℕ) (cells : List ℕ) (a : Told)
+    → a ≡ toldOf (dimensionAnswer W C M n s cells (replicate k 0) (replicate j (pos 0)) (replicate j (pos 0)) (replicate i 0)) → a .outcome ≡ CheckOutcome.Done
+    → a ≡ toldOf (dimensionAnswer W C M n s cells ownCells ownCoefficients ownCoefficients ownWords)
+own-rooms k j i h g f =
+    larger-rooms (replicate k 0) ownCells (replicate j (pos 0)) ownCoefficients (replicate i 0) ownWords
     (rw (length-replicate {A = ℕ} k 0, length-replicate {A = ℕ} 16384 0) h)
     (rw (length-replicate j (pos 0), length-replicate 4096 (pos 0)) g)
     (rw (length-replicate {A = ℕ} i 0, length-replicate {A = ℕ} 4096 0) f)
-    W C M n s cells a d e v
 
 -- a dimension that is not refused
 
@@ -180,11 +176,14 @@ number-there Dimension = refl
 number-there Output = refl
 number-there Coefficient = refl
 
-told-outcome : (o : Option Refusal) (n : ℕ) (L : List (List ℕ)) → toldAs (dimensionIs o n L) ≡ checkAnswer o
+abbrev outcomeAs : Told → CheckAnswer
+outcomeAs t = record { outcome = t .outcome }
+
+told-outcome : (o : Option Refusal) (n : ℕ) (L : List (List ℕ)) → record { outcome = toldOf (dimensionIs o n L) .outcome } ≡ checkAnswer o
 told-outcome none n L = refl
 told-outcome (some x) n L = refl
 
-told-bytes : (o : Option Refusal) (n : ℕ) (L : List (List ℕ)) → (o ≡ none → dimension n L < 2 ^ 127) → toldBytes (dimensionIs o n L) ≡ answerOf (status o) (dimension n L) (topDegree n L)
+told-bytes : (o : Option Refusal) (n : ℕ) (L : List (List ℕ)) → (o ≡ none → dimension n L < 2 ^ 127) → toldBytes (toldOf (dimensionIs o n L)) ≡ answerOf (status o) (dimension n L) (topDegree n L)
 told-bytes none n L h = ap (λ (x : ℕ). answerOf 0 x (topDegree n L)) (value-exact (dimension n L) (h refl))
 told-bytes (some x) n L h = rw (number-there x)
 
@@ -194,10 +193,10 @@ module _ (W C M : ℕ) (rec : List ℕ) where
       dimension-small W C M (widthIn rec) (countIn rec) (exponentsIn rec) ownCells ownCoefficients ownCoefficients ownWords
       (first-passes (notRecord C rec) (recordChecks W C M rec) e .1)
 
-  pub top-fits : M < 2 ^ 32 → TopFits (recordAnswer W C M rec)
+  pub top-fits : M < 2 ^ 32 → toldOf (recordAnswer W C M rec) .top < 2 ^ 32
   top-fits m = go (refusal (notRecord C rec ∷ recordChecks W C M rec)) refl
     where
-      go : (o : Option Refusal) → refusal (notRecord C rec ∷ recordChecks W C M rec) ≡ o → topOf (dimensionIs o (widthIn rec) (listIn rec) .outcome) < 2 ^ 32
+      go : (o : Option Refusal) → refusal (notRecord C rec ∷ recordChecks W C M rec) ≡ o → toldOf (dimensionIs o (widthIn rec) (listIn rec)) .top < 2 ^ 32
       go none e = lt-of-le-of-lt (passed e .1) m
       go (some x) e = lit< tt
 
@@ -217,49 +216,29 @@ module _ (W C M : ℕ) (rec : List ℕ) where
     roomy-bytes h =
         ap (λ (t : Bool). after (cond t (some Output) none) (answerOf (hostNumber W C M S rec out) (dimension (widthIn rec) (listIn rec)) (topDegree (widthIn rec) (listIn rec)) ++ drop S out) out) (le-ltb (length out) S h)
 
-    pub told-is : S ≤ length out → (a : DimensionAnswer) (r : CheckAnswer) (d : List ℕ) → a ≡ recordAnswer W C M rec → r ≡ toldAs a → d ≡ toldBytes a ++ drop S out
+    pub told-is : S ≤ length out → (a : Told) (r : CheckAnswer) (d : List ℕ) → a ≡ toldOf (recordAnswer W C M rec) → r ≡ record { outcome = a .outcome } → d ≡ toldBytes a ++ drop S out
         → (r ≡ hostAnswer W C M S rec out) × (d ≡ hostBytes W C M S rec out)
     told-is h a r d ea er ed = (
-      er ∙ ap toldAs ea ∙ told-outcome (refusal (notRecord C rec ∷ recordChecks W C M rec)) (widthIn rec) (listIn rec) ∙ ap checkAnswer (sym (roomy h)),
+      er ∙ ap outcomeAs ea ∙ told-outcome (refusal (notRecord C rec ∷ recordChecks W C M rec)) (widthIn rec) (listIn rec) ∙ ap checkAnswer (sym (roomy h)),
       ed
-          ∙ ap (λ (x : DimensionAnswer). toldBytes x ++ drop S out) ea
+          ∙ ap (λ (x : Told). toldBytes x ++ drop S out) ea
           ∙ ap (λ (x : List ℕ). x ++ drop S out) (told-bytes (refusal (notRecord C rec ∷ recordChecks W C M rec)) (widthIn rec) (listIn rec) (λ e. passed e .0))
           ∙ ap (λ (o : Option Refusal). answerOf (status o) (dimension (widthIn rec) (listIn rec)) (topDegree (widthIn rec) (listIn rec)) ++ drop S out) (sym (roomy h))
           ∙ sym (roomy-bytes h),
     )
 
 -- an answer that is told
-
-abbrev outcomeAs : DimensionOutcome → CheckAnswer
-outcomeAs o = record { outcome = outcomeOf o }
-
-module _ (S : ℕ) (a : DimensionAnswer) (out d : List ℕ) (h : S ≤ length out) where
-  written : (s x t : ℕ) → answerBytes S s x t out ≡ answerOf s x t ++ drop S out
-  written s x t = ap (λ (b : Bool). after (cond b (some Output) none) (answerOf s x t ++ drop S out) out) (le-ltb (length out) S h)
-
-  pub tell-done : (v : DimensionValue) → a .outcome ≡ DimensionOutcome.Value v → d ≡ answerBytes S 0 (value (v .dimension)) (v .top) out
-      → (checkAnswer none ≡ toldAs a) × (d ≡ toldBytes a ++ drop S out)
-  tell-done v g e = (
-    ap outcomeAs (sym g),
-    e ∙ written 0 (value (v .dimension)) (v .top) ∙ ap (λ (o : DimensionOutcome). bytesOf o ++ drop S out) (sym g),
-  )
-
-  pub tell-refused : (x : Refusal) (k : ℕ) → a .outcome ≡ DimensionOutcome.Refused x → k ≡ number x → d ≡ answerBytes S k 0 0 out
-      → (checkAnswer (some x) ≡ toldAs a) × (d ≡ toldBytes a ++ drop S out)
-  tell-refused x k g f e = (
-    ap outcomeAs (sym g),
-    e ∙ ap (λ (j : ℕ). answerBytes S j 0 0 out) f ∙ written (number x) 0 0 ∙ ap (λ (o : DimensionOutcome). bytesOf o ++ drop S out) (sym g),
-  )
+pub told-written : (S : ℕ) (t : Told) (out d : List ℕ) (k : ℕ) → S ≤ length out → k ≡ statusOf (t .outcome) → d ≡ answerBytes S k (value (t .dimension)) (t .top) out → d ≡ toldBytes t ++ drop S out
+told-written S t out d k h f e =
+    e
+    ∙ ap (λ (j : ℕ). answerBytes S j (value (t .dimension)) (t .top) out) f
+    ∙ ap (λ (b : Bool). after (cond b (some Output) none) (toldBytes t ++ drop S out) out) (le-ltb (length out) S h)
 
 -- the number of an answer
 
-pub done-number : (o : Option Refusal) → checkAnswer o .outcome ≡ CheckOutcome.Done → 0 ≡ status o
-done-number none e = refl
-done-number (some x) e = let z : _≡_ {A = ℕ} 0 1 = cc in absurd (omega arith)
-
-pub refused-number : (o : Option Refusal) (x : Refusal) → checkAnswer o .outcome ≡ CheckOutcome.Refused x → number x ≡ status o
-refused-number none x e = let z : _≡_ {A = ℕ} 0 1 = cc in absurd (omega arith)
-refused-number (some y) x e = let z : x ≡ y = cc in ap number z
+pub status-is : (o : Option Refusal) (a : CheckAnswer) → a ≡ checkAnswer o → statusOf (a .outcome) ≡ status o
+status-is none a e = ap (λ (b : CheckAnswer). statusOf (b .outcome)) e
+status-is (some x) a e = ap (λ (b : CheckAnswer). statusOf (b .outcome)) e
 
 -- what was copied
 
@@ -298,16 +277,17 @@ record-fits rec cells h a e = header-fits rec cells h a (record-header 60 rec h 
 -- the dimension of what was copied
 
 module _ (W C M : ℕ) (rec : List ℕ) where
-  pub record-dimension : (n m : ℕ) (cells : List ℕ) (r : DimensionAnswer) → isRecord C rec ≡ true → n ≡ widthIn rec → m ≡ countIn rec → cells ≡ exponentsIn rec
-      → r ≡ dimensionAnswer W C M n m cells ownCells ownCoefficients ownCoefficients ownWords → r ≡ recordAnswer W C M rec
+  pub record-dimension : (n m : ℕ) (cells : List ℕ) (r : Told) → isRecord C rec ≡ true → n ≡ widthIn rec → m ≡ countIn rec → cells ≡ exponentsIn rec
+      → r ≡ toldOf (dimensionAnswer W C M n m cells ownCells ownCoefficients ownCoefficients ownWords) → r ≡ toldOf (recordAnswer W C M rec)
   record-dimension n m cells r t en em ec e =
       e
-      ∙ ap (λ (x : ℕ). dimensionAnswer W C M x m cells ownCells ownCoefficients ownCoefficients ownWords) en
-      ∙ ap (λ (x : ℕ). dimensionAnswer W C M (widthIn rec) x cells ownCells ownCoefficients ownCoefficients ownWords) em
-      ∙ ap (λ (x : List ℕ). dimensionAnswer W C M (widthIn rec) (countIn rec) x ownCells ownCoefficients ownCoefficients ownWords) ec
-      ∙ ap (λ (o : Option Refusal). dimensionIs o (widthIn rec) (listIn rec)) (sym (a-record C rec (recordChecks W C M rec) t))
+      ∙ ap (λ (x : ℕ). toldOf (dimensionAnswer W C M x m cells ownCells ownCoefficients ownCoefficients ownWords)) en
+      ∙ ap (λ (x : ℕ). toldOf (dimensionAnswer W C M (widthIn rec) x cells ownCells ownCoefficients ownCoefficients ownWords)) em
+      ∙ ap (λ (x : List ℕ). toldOf (dimensionAnswer W C M (widthIn rec) (countIn rec) x ownCells ownCoefficients ownCoefficients ownWords)) ec
+      ∙ ap (λ (o : Option Refusal). toldOf (dimensionIs o (widthIn rec) (listIn rec))) (sym (a-record C rec (recordChecks W C M rec) t))
 
-  pub no-record-dimension : (x : Refusal) → isRecord C rec ≡ false → x ≡ Record → dimensionIs (some x) 0 [] ≡ recordAnswer W C M rec
-  no-record-dimension x t e =
-      ap (λ (y : Refusal). dimensionIs (some y) 0 []) e
-      ∙ ap (λ (o : Option Refusal). dimensionIs o (widthIn rec) (listIn rec)) (sym (no-record C rec (recordChecks W C M rec) t))
+  pub no-record-dimension : (x : Refusal) (r : Told) → isRecord C rec ≡ false → x ≡ Record → r ≡ refusedAs x → r ≡ toldOf (recordAnswer W C M rec)
+  no-record-dimension x r t e f =
+      f
+      ∙ ap refusedAs e
+      ∙ ap (λ (o : Option Refusal). toldOf (dimensionIs o (widthIn rec) (listIn rec))) (sym (no-record C rec (recordChecks W C M rec) t))

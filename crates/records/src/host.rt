@@ -20,12 +20,12 @@ use numbers::hf_at::MAX_DEGREE;
 use numbers::wide::Wide;
 ghost use mathlib.Core.Path.{_≡_};
 ghost use mathlib.Core.List.{_++_};
-ghost use Prim.Native.Nat.{_≤_};
+ghost use Prim.Native.Nat.{_^_, _<_, _≤_};
 ghost use lib.IntN.{pos};
 ghost use lib.ListN.{length, drop, replicate};
 ghost use Rattle.numbers.specs.Dimension.{dimensionAnswer};
 ghost use Rattle.records.specs.Host.{ownCells, ownCoefficients, ownWords, hostAnswer, hostNumber, hostBytes};
-ghost use Rattle.records.specs.HostParts.{recordAnswer, TopFits, toldAs, toldBytes};
+ghost use Rattle.records.specs.HostParts.{recordAnswer, refusedAs, statusOf, toldBytes, toldOf};
 ghost use Rattle.records.specs.Rows.{Ample};
 
 // The exponent cells of the call's own room.
@@ -36,6 +36,14 @@ const COEFFICIENT_ROOM: usize = 4096;
 
 // The words of its sum room.
 const SUM_ROOM: usize = 4096;
+
+// What an answer record tells: done or what is refused, the dimension and the top degree, both 0 with a refusal. A struct of words is handed
+// on sooner than an answer with its outcome.
+struct Told {
+    dimension: Wide,
+    top: u64,
+    outcome: CheckOutcome,
+}
 
 // Writes the answer record of an ideal record: the dimension and the top degree of what it lists, or the number of what is refused. Past it
 // the output is kept, and an output with too few bytes is left as it is.
@@ -58,15 +66,12 @@ pub extern "C" fn purlthicket_dim(rec: &[u8], out: &mut [u8]) -> u8
     ensures { λ _. do ⌜ now (out .exit) ≡ hostBytes (← ⟦MAX_WIDTH⟧ .entry) (← ⟦MAX_COUNT⟧ .entry) (← ⟦MAX_DEGREE⟧ .entry) (← ⟦ANSWER_SIZE⟧ .entry) (now (rec .entry)) (now (out .entry)) ⌝ }
 {
     let outcome = answer_record(rec, out).outcome;
-    match outcome {
-        CheckOutcome::Done => 0,
-        CheckOutcome::Refused(refusal) => number_of(refusal),
-    }
+    status(outcome)
 }
 
 // The dimension of what the record lists, or what is refused; a short record has fewer cells, as in `is_record`.
-fn dimension_of(rec: &[u8]) -> DimensionAnswer
-    ensures { λ r. do ⌜ r ≡ recordAnswer (← ⟦MAX_WIDTH⟧ .entry) (← ⟦MAX_COUNT⟧ .entry) (← ⟦MAX_DEGREE⟧ .entry) (now (rec .entry)) ⌝ }
+fn dimension_of(rec: &[u8]) -> Told
+    ensures { λ r. do ⌜ r ≡ toldOf (recordAnswer (← ⟦MAX_WIDTH⟧ .entry) (← ⟦MAX_COUNT⟧ .entry) (← ⟦MAX_DEGREE⟧ .entry) (now (rec .entry))) ⌝ }
 {
     if rec.len() <= SHORT_RECORD {
         return in_few_cells(rec);
@@ -75,26 +80,26 @@ fn dimension_of(rec: &[u8]) -> DimensionAnswer
 }
 
 // The same for a short record.
-fn in_few_cells(rec: &[u8]) -> DimensionAnswer
+fn in_few_cells(rec: &[u8]) -> Told
     requires { do ⌜ length (now rec) ≤ (← ⟦SHORT_RECORD⟧) ⌝ }
-    ensures { λ r. do ⌜ r ≡ recordAnswer (← ⟦MAX_WIDTH⟧ .entry) (← ⟦MAX_COUNT⟧ .entry) (← ⟦MAX_DEGREE⟧ .entry) (now (rec .entry)) ⌝ }
+    ensures { λ r. do ⌜ r ≡ toldOf (recordAnswer (← ⟦MAX_WIDTH⟧ .entry) (← ⟦MAX_COUNT⟧ .entry) (← ⟦MAX_DEGREE⟧ .entry) (now (rec .entry))) ⌝ }
 {
     let mut cells = [0u16; FEW_CELLS];
     dimension_in(rec, &mut cells)
 }
 
 // The same for any record.
-fn in_all_cells(rec: &[u8]) -> DimensionAnswer
-    ensures { λ r. do ⌜ r ≡ recordAnswer (← ⟦MAX_WIDTH⟧ .entry) (← ⟦MAX_COUNT⟧ .entry) (← ⟦MAX_DEGREE⟧ .entry) (now (rec .entry)) ⌝ }
+fn in_all_cells(rec: &[u8]) -> Told
+    ensures { λ r. do ⌜ r ≡ toldOf (recordAnswer (← ⟦MAX_WIDTH⟧ .entry) (← ⟦MAX_COUNT⟧ .entry) (← ⟦MAX_DEGREE⟧ .entry) (now (rec .entry))) ⌝ }
 {
     let mut cells = [0u16; MAX_CELLS];
     dimension_in(rec, &mut cells)
 }
 
 // The same, the exponents copied into `cells`.
-fn dimension_in(rec: &[u8], cells: &mut [u16]) -> DimensionAnswer
+fn dimension_in(rec: &[u8], cells: &mut [u16]) -> Told
     requires { ⌜ Ample (now rec) (now cells) ⌝ }
-    ensures { λ r. do ⌜ r ≡ recordAnswer (← ⟦MAX_WIDTH⟧ .entry) (← ⟦MAX_COUNT⟧ .entry) (← ⟦MAX_DEGREE⟧ .entry) (now (rec .entry)) ⌝ }
+    ensures { λ r. do ⌜ r ≡ toldOf (recordAnswer (← ⟦MAX_WIDTH⟧ .entry) (← ⟦MAX_COUNT⟧ .entry) (← ⟦MAX_DEGREE⟧ .entry) (now (rec .entry))) ⌝ }
 {
     let outcome = read_record(rec, cells).outcome;
     match outcome {
@@ -104,16 +109,14 @@ fn dimension_in(rec: &[u8], cells: &mut [u16]) -> DimensionAnswer
             let end = m * n;
             in_own_rooms(n, m, &cells[0..end])
         }
-        CopyOutcome::Refused(refusal) => DimensionAnswer {
-            outcome: DimensionOutcome::Refused(refusal),
-        },
+        CopyOutcome::Refused(refusal) => refused(refusal),
     }
 }
 
 // The dimension of the m monomials in `cells`, in rooms of this call's own. Large rooms take longer to clear than the count of a short list, so
 // smaller ones are tried before, and for few exponents tiny ones before these.
-fn in_own_rooms(n: usize, m: usize, cells: &[u16]) -> DimensionAnswer
-    ensures { λ r. do ⌜ r ≡ dimensionAnswer (← ⟦MAX_WIDTH⟧ .entry) (← ⟦MAX_COUNT⟧ .entry) (← ⟦MAX_DEGREE⟧ .entry) n m (now (cells .entry)) ownCells ownCoefficients ownCoefficients ownWords ⌝ }
+fn in_own_rooms(n: usize, m: usize, cells: &[u16]) -> Told
+    ensures { λ r. do ⌜ r ≡ toldOf (dimensionAnswer (← ⟦MAX_WIDTH⟧ .entry) (← ⟦MAX_COUNT⟧ .entry) (← ⟦MAX_DEGREE⟧ .entry) n m (now (cells .entry)) ownCells ownCoefficients ownCoefficients ownWords) ⌝ }
 {
     if 16 < cells.len() {
         return in_small_or_large_rooms(n, m, cells);
@@ -121,75 +124,102 @@ fn in_own_rooms(n: usize, m: usize, cells: &[u16]) -> DimensionAnswer
     let answer = in_tiny_rooms(n, m, cells);
     let outcome = answer.outcome;
     match outcome {
-        DimensionOutcome::Value(_) => answer,
-        DimensionOutcome::Refused(_) => in_small_or_large_rooms(n, m, cells),
+        CheckOutcome::Done => answer,
+        CheckOutcome::Refused(_) => in_small_or_large_rooms(n, m, cells),
     }
 }
 
 // The same, the small rooms tried first.
-fn in_small_or_large_rooms(n: usize, m: usize, cells: &[u16]) -> DimensionAnswer
-    ensures { λ r. do ⌜ r ≡ dimensionAnswer (← ⟦MAX_WIDTH⟧ .entry) (← ⟦MAX_COUNT⟧ .entry) (← ⟦MAX_DEGREE⟧ .entry) n m (now (cells .entry)) ownCells ownCoefficients ownCoefficients ownWords ⌝ }
+fn in_small_or_large_rooms(n: usize, m: usize, cells: &[u16]) -> Told
+    ensures { λ r. do ⌜ r ≡ toldOf (dimensionAnswer (← ⟦MAX_WIDTH⟧ .entry) (← ⟦MAX_COUNT⟧ .entry) (← ⟦MAX_DEGREE⟧ .entry) n m (now (cells .entry)) ownCells ownCoefficients ownCoefficients ownWords) ⌝ }
 {
     let answer = in_small_rooms(n, m, cells);
     let outcome = answer.outcome;
     match outcome {
-        DimensionOutcome::Value(_) => answer,
-        DimensionOutcome::Refused(_) => in_large_rooms(n, m, cells),
+        CheckOutcome::Done => answer,
+        CheckOutcome::Refused(_) => in_large_rooms(n, m, cells),
     }
 }
 
 // The same in tiny rooms.
-fn in_tiny_rooms(n: usize, m: usize, cells: &[u16]) -> DimensionAnswer
-    ensures { λ r. do ⌜ r ≡ dimensionAnswer (← ⟦MAX_WIDTH⟧ .entry) (← ⟦MAX_COUNT⟧ .entry) (← ⟦MAX_DEGREE⟧ .entry) n m (now (cells .entry)) (replicate 256 0) (replicate 16 (pos 0)) (replicate 16 (pos 0)) (replicate 32 0) ⌝ }
+fn in_tiny_rooms(n: usize, m: usize, cells: &[u16]) -> Told
+    ensures { λ r. do ⌜ r ≡ toldOf (dimensionAnswer (← ⟦MAX_WIDTH⟧ .entry) (← ⟦MAX_COUNT⟧ .entry) (← ⟦MAX_DEGREE⟧ .entry) n m (now (cells .entry)) (replicate 256 0) (replicate 16 (pos 0)) (replicate 16 (pos 0)) (replicate 32 0)) ⌝ }
 {
     let mut room = [0u16; 256];
     let mut first = [0i64; 16];
     let mut second = [0i64; 16];
     let mut sums = [0u64; 32];
-    quotient_dimension(n, m, cells, &mut room, &mut first, &mut second, &mut sums)
+    as_told(quotient_dimension(n, m, cells, &mut room, &mut first, &mut second, &mut sums))
 }
 
 // The same in small rooms.
-fn in_small_rooms(n: usize, m: usize, cells: &[u16]) -> DimensionAnswer
-    ensures { λ r. do ⌜ r ≡ dimensionAnswer (← ⟦MAX_WIDTH⟧ .entry) (← ⟦MAX_COUNT⟧ .entry) (← ⟦MAX_DEGREE⟧ .entry) n m (now (cells .entry)) (replicate 2048 0) (replicate 128 (pos 0)) (replicate 128 (pos 0)) (replicate 128 0) ⌝ }
+fn in_small_rooms(n: usize, m: usize, cells: &[u16]) -> Told
+    ensures { λ r. do ⌜ r ≡ toldOf (dimensionAnswer (← ⟦MAX_WIDTH⟧ .entry) (← ⟦MAX_COUNT⟧ .entry) (← ⟦MAX_DEGREE⟧ .entry) n m (now (cells .entry)) (replicate 2048 0) (replicate 128 (pos 0)) (replicate 128 (pos 0)) (replicate 128 0)) ⌝ }
 {
     let mut room = [0u16; 2048];
     let mut first = [0i64; 128];
     let mut second = [0i64; 128];
     let mut sums = [0u64; 128];
-    quotient_dimension(n, m, cells, &mut room, &mut first, &mut second, &mut sums)
+    as_told(quotient_dimension(n, m, cells, &mut room, &mut first, &mut second, &mut sums))
 }
 
 // The same in the rooms that the call's refusals speak of.
-fn in_large_rooms(n: usize, m: usize, cells: &[u16]) -> DimensionAnswer
-    ensures { λ r. do ⌜ r ≡ dimensionAnswer (← ⟦MAX_WIDTH⟧ .entry) (← ⟦MAX_COUNT⟧ .entry) (← ⟦MAX_DEGREE⟧ .entry) n m (now (cells .entry)) ownCells ownCoefficients ownCoefficients ownWords ⌝ }
+fn in_large_rooms(n: usize, m: usize, cells: &[u16]) -> Told
+    ensures { λ r. do ⌜ r ≡ toldOf (dimensionAnswer (← ⟦MAX_WIDTH⟧ .entry) (← ⟦MAX_COUNT⟧ .entry) (← ⟦MAX_DEGREE⟧ .entry) n m (now (cells .entry)) ownCells ownCoefficients ownCoefficients ownWords) ⌝ }
 {
     let mut room = [0u16; CELL_ROOM];
     let mut first = [0i64; COEFFICIENT_ROOM];
     let mut second = [0i64; COEFFICIENT_ROOM];
     let mut sums = [0u64; SUM_ROOM];
-    quotient_dimension(n, m, cells, &mut room, &mut first, &mut second, &mut sums)
+    as_told(quotient_dimension(n, m, cells, &mut room, &mut first, &mut second, &mut sums))
 }
 
-// Writes the answer record that carries the answer.
-fn tell(answer: DimensionAnswer, out: &mut [u8]) -> CheckAnswer
-    requires { do ⌜ TopFits answer × ((← ⟦ANSWER_SIZE⟧) ≤ length (now out)) ⌝ }
-    ensures { λ r. ⌜ r ≡ toldAs answer ⌝ }
-    ensures { λ _. do ⌜ now (out .exit) ≡ toldBytes answer ++ drop (← ⟦ANSWER_SIZE⟧ .entry) (now (out .entry)) ⌝ }
+// The answer of `quotient_dimension` in the words of an answer record.
+fn as_told(answer: DimensionAnswer) -> Told
+    ensures { λ r. ⌜ r ≡ toldOf answer ⌝ }
 {
     let outcome = answer.outcome;
     match outcome {
         DimensionOutcome::Value(d) => {
-            write_answer(0, d.dimension, d.top as u32, out);
-            CheckAnswer {
+            let dimension = d.dimension;
+            Told {
                 outcome: CheckOutcome::Done,
+                dimension,
+                top: d.top,
             }
         }
-        DimensionOutcome::Refused(refusal) => {
-            write_answer(number_of(refusal), Wide::ZERO, 0, out);
-            CheckAnswer {
-                outcome: CheckOutcome::Refused(refusal),
-            }
-        }
+        DimensionOutcome::Refused(refusal) => refused(refusal),
     }
+}
+
+// A refusal in the same words.
+fn refused(refusal: Refusal) -> Told
+    ensures { λ r. ⌜ r ≡ refusedAs refusal ⌝ }
+{
+    Told {
+        outcome: CheckOutcome::Refused(refusal),
+        dimension: Wide::ZERO,
+        top: 0,
+    }
+}
+
+// The number of what is refused, or 0.
+fn status(outcome: CheckOutcome) -> u8
+    ensures { λ r. ⌜ r ≡ statusOf outcome ⌝ }
+{
+    match outcome {
+        CheckOutcome::Done => 0,
+        CheckOutcome::Refused(refusal) => number_of(refusal),
+    }
+}
+
+// Writes the answer record.
+fn tell(answer: Told, out: &mut [u8]) -> CheckAnswer
+    requires { do ⌜ (answer .top < 2 ^ 32) × ((← ⟦ANSWER_SIZE⟧) ≤ length (now out)) ⌝ }
+    ensures { λ r. ⌜ r ≡ record { outcome = answer .outcome } ⌝ }
+    ensures { λ _. do ⌜ now (out .exit) ≡ toldBytes answer ++ drop (← ⟦ANSWER_SIZE⟧ .entry) (now (out .entry)) ⌝ }
+{
+    let outcome = answer.outcome;
+    write_answer(status(outcome), answer.dimension, answer.top as u32, out);
+    CheckAnswer { outcome }
 }

@@ -14,5 +14,5 @@ in-small-or-large-rooms-spec =
     (λ c. search needs)
     (λ c κs. search needs)
     -- returns
-    (λ c. let p2 = c .before .before in let p4 = p2 .before .before in own-rooms 2048 128 128 (lit≤ tt) (lit≤ tt) (lit≤ tt) 255 60 65536 (p4 .args .n) (p4 .args .m) (p4 .args .cells .now) (p2 .in-small-rooms .result) (c .enum-told .given .0 .0) (p2 .in-small-rooms .ensures) (c .enum-told .given .1))
+    (λ c. let p2 = c .before .before in let p4 = p2 .before .before in own-rooms 2048 128 128 (lit≤ tt) (lit≤ tt) (lit≤ tt) 255 60 65536 (p4 .args .n) (p4 .args .m) (p4 .args .cells .now) (p2 .in-small-rooms .result) (p2 .in-small-rooms .ensures) (c .enum-told .given .1))
     (λ c. search needs))
