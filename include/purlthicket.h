@@ -13,7 +13,8 @@ extern "C" {
 #define PURLTHICKET_MAX_RECORD 30607
 
 /* The bytes of stack that a call takes at most: 160 KB for its own list and rooms, the rest for a recursion of at most 60 levels. A thread
-   that calls must have them left; nothing in the call looks. */
+   that calls must have them left; nothing in the call looks. None of the library's other calls takes more than
+   131,072; docs/BENCHMARKS.md has what was measured of each. */
 #define PURLTHICKET_STACK 524288
 
 /* The numbers by which the library's calls refuse, one meaning each. purlthicket_dim returns 0, 7, 8, 9, 11, 12, 13 or 14. */

@@ -14,7 +14,7 @@ use native.Mathlib.Omega.{arith}
 use lib.Dec.{leb, ltb, eqb, lit<, lit≤}
 use lib.IntN.{ℤ, pos}
 use lib.ListN.{length, replicate, drop}
-use borrow.Author.Tests.{lt-ltb, le-ltb, eq-eqb, ne-eqb, eqb-true, ltb-false, leb-false}
+use borrow.Author.Tests.{lt-ltb, le-ltb, eq-eqb, ne-eqb, eqb-true, ltb-false, leb-false, not-false}
 use Rattle.laws.specs.Ideal.{listed, Within, unitIn}
 use Rattle.laws.specs.Coefficients.{coefficient}
 use Rattle.laws.specs.Count.{HF}
@@ -39,7 +39,7 @@ use Rattle.numbers.specs.declared.wide.Wide.{Wide}
 use Rattle.numbers.specs.declared.powers.Checked.{Checked}
 use Rattle.numbers.specs.declared.dimension.DimensionOutcome.{DimensionOutcome}
 use Rattle.numbers.specs.declared.dimension.DimensionAnswer.{DimensionAnswer}
-use Rattle.numbers.proofs.ToLaws.{either-short}
+use Rattle.numbers.proofs.ToLaws.{either-short, neither}
 use Rattle.numbers.proofs.TwoWords.{wide-mod}
 
 -- the checks 13 and 11
@@ -193,20 +193,12 @@ refusal-then (x ∷ xs) ys e = go (x .0) refl (refusal-then xs ys)
     go false h f = rw h (f (rw h at e))
 
 -- no check refuses
-refusal-none : (x : Check) (xs : List Check) → refusal (x ∷ xs) ≡ none → (x .0 ≡ false) × (refusal xs ≡ none)
+pub refusal-none : (x : Check) (xs : List Check) → refusal (x ∷ xs) ≡ none → (x .0 ≡ false) × (refusal xs ≡ none)
 refusal-none x xs e = go (x .0) refl
   where
     go : (t : Bool) → x .0 ≡ t → (t ≡ false) × (refusal xs ≡ none)
     go true h = let z : _≡_ {A = ℕ} 0 1 = cc (rw h at e) in absurd (omega arith)
     go false h = (refl, rw h at e)
-
-not-false : (t : Bool) → not t ≡ false → t ≡ true
-not-false true e = refl
-not-false false e = absurd (false≢true (sym e))
-
-neither : (a b : Bool) → (a || b) ≡ false → (a ≡ false) × (b ≡ false)
-neither true b e = absurd (false≢true (sym e))
-neither false b e = (refl, e)
 
 -- without variables
 no-variables : (n s : ℕ) (cells : List ℕ) → n ≡ 0 → unitIn (listed n s cells) ≡ false → length cells ≡ s * n → dimension n (listed n s cells) ≡ 1

@@ -6,7 +6,7 @@
 --   refused-is, asked-is  an outcome read back
 --   one-checks, one-..    a call on one list, with no given coefficients
 use mathlib.Core.Path.{_≡_, refl, sym, ap, ap₂, _∙_}
-use mathlib.Core.Bool.{Bool, true, false, not, _||_, false≢true}
+use mathlib.Core.Bool.{Bool, true, false, not, _||_}
 use mathlib.Core.List.{List, [], _∷_, _++_, append-nil}
 use mathlib.Core.Option.{Option, none, some, Option·elim}
 use Prim.Native.Nat.{ℕ, _+_, _*_, _≤_, _<_, max}
@@ -19,6 +19,7 @@ use borrow.Author.Tests.{lt-ltb, le-ltb, eq-eqb, ne-eqb, ltb-false, eqb-true, no
 use Rattle.laws.specs.Ideal.{listed}
 use Rattle.laws.specs.Room.{cellsAsked, coefficientsAsked, dimensionWords}
 use Rattle.laws.proofs.Asked.{both}
+use Rattle.laws.proofs.Monomial.{or-right}
 use Rattle.monomials.specs.Refusal.{Check, refusal}
 use Rattle.monomials.specs.declared.refusal.Refusal.{Refusal}
 use Rattle.monomials.specs.declared.refusal.Refusal.the-variants.{Width, Count, Cells, Coefficient, CellRoom, CoefficientRoom}
@@ -27,24 +28,12 @@ use Rattle.laws.specs.Dimension.{degreeBound}
 use Rattle.numbers.specs.Dimension.{roomChecks, sumRoom}
 use Rattle.numbers.specs.DimensionParts.{Cells as CellsOf}
 use Rattle.numbers.specs.RoomsParts.{roomsAnswer, roomsChecks}
-use Rattle.numbers.proofs.DimensionCall.{Left}
+use Rattle.numbers.proofs.DimensionCall.{Left, refusal-none}
+use Rattle.numbers.proofs.ToLaws.{neither}
 use Rattle.numbers.specs.declared.dimension.DimensionOutcome.{DimensionOutcome}
 use Rattle.numbers.specs.declared.dimension.DimensionAnswer.{DimensionAnswer}
 use Rattle.numbers.specs.declared.asked.Rooms.{Rooms}
 use Rattle.numbers.specs.declared.asked.Sizes.{Sizes}
-
-or-true : (a b : Bool) → b ≡ true → (a || b) ≡ true
-or-true true b e = refl
-or-true false b e = e
-
-or-none : (a b : Bool) → (a || b) ≡ false → (a ≡ false) × (b ≡ false)
-or-none false b h = (refl, h)
-or-none true b h = absurd (false≢true (sym h))
-
--- a call that passes a check and the later ones
-passes-one : (b : Bool) (x : Refusal) (cs : List Check) → refusal ((b, x) ∷ cs) ≡ none → (b ≡ false) × (refusal cs ≡ none)
-passes-one false x cs e = (refl, e)
-passes-one true x cs e = let z : _≡_ {A = ℕ} 0 1 = cc in absurd (omega arith)
 
 -- an outcome read back
 elim-refused : (o : Option Refusal) (a : Sizes) (x : Refusal) → Option·elim o (Rooms.Asked a) Rooms.Refused ≡ Rooms.Refused x → o ≡ some x
@@ -110,7 +99,7 @@ module _ (n s : ℕ) (xs : List ℕ) (t : ℕ) (ys : List ℕ) (large : Bool) (l
               pub stops-coefficients-2 : second < a .coefficients → Rooms.Refused CoefficientRoom ≡ outcome
               stops-coefficients-2 b =
                   stops CoefficientRoom
-                  (first-four ∙ rw (enough, or-true (ltb first coefficients) (ltb second coefficients) (lt-ltb second coefficients (rw eb at b))))
+                  (first-four ∙ rw (enough, or-right (ltb first coefficients) (ltb second coefficients) (lt-ltb second coefficients (rw eb at b))))
 
               pub asks : a .coefficients ≤ first → a .coefficients ≤ second → Rooms.Asked a ≡ outcome
               unfolding Option·elim roomsAnswer
@@ -140,14 +129,14 @@ module _ (n s : ℕ) (xs : List ℕ) (t : ℕ) (ys : List ℕ) (large : Bool) (l
   unfolding roomsAnswer
   asked-is r a e f =
       let (o, i) = elim-asked (refusal checks) (record { cells = cells; coefficients = coefficients }) a (sym e ∙ f) in
-      let (o1, p1) = passes-one (ltb 255 n) Width (tooMany 60 (s + t) ∷ notCells n s xs ∷ notCells n t ys ∷ (large, Coefficient) ∷ (ltb room cells, CellRoom) ∷ (ltb first coefficients || ltb second coefficients, CoefficientRoom) ∷ []) o in
-      let (o2, p2) = passes-one (ltb 60 (s + t)) Count (notCells n s xs ∷ notCells n t ys ∷ (large, Coefficient) ∷ (ltb room cells, CellRoom) ∷ (ltb first coefficients || ltb second coefficients, CoefficientRoom) ∷ []) p1 in
-      let (o3, p3) = passes-one (not (eqb (length xs) (s * n))) Cells (notCells n t ys ∷ (large, Coefficient) ∷ (ltb room cells, CellRoom) ∷ (ltb first coefficients || ltb second coefficients, CoefficientRoom) ∷ []) p2 in
-      let (o4, p4) = passes-one (not (eqb (length ys) (t * n))) Cells ((large, Coefficient) ∷ (ltb room cells, CellRoom) ∷ (ltb first coefficients || ltb second coefficients, CoefficientRoom) ∷ []) p3 in
-      let (o5, p5) = passes-one large Coefficient ((ltb room cells, CellRoom) ∷ (ltb first coefficients || ltb second coefficients, CoefficientRoom) ∷ []) p4 in
-      let (o6, p6) = passes-one (ltb room cells) CellRoom ((ltb first coefficients || ltb second coefficients, CoefficientRoom) ∷ []) p5 in
-      let (o7, p7) = passes-one (ltb first coefficients || ltb second coefficients) CoefficientRoom [] p6 in
-      let (u, v) = or-none (ltb first coefficients) (ltb second coefficients) o7 in
+      let (o1, p1) = refusal-none (ltb 255 n, Width) (tooMany 60 (s + t) ∷ notCells n s xs ∷ notCells n t ys ∷ (large, Coefficient) ∷ (ltb room cells, CellRoom) ∷ (ltb first coefficients || ltb second coefficients, CoefficientRoom) ∷ []) o in
+      let (o2, p2) = refusal-none (ltb 60 (s + t), Count) (notCells n s xs ∷ notCells n t ys ∷ (large, Coefficient) ∷ (ltb room cells, CellRoom) ∷ (ltb first coefficients || ltb second coefficients, CoefficientRoom) ∷ []) p1 in
+      let (o3, p3) = refusal-none (not (eqb (length xs) (s * n)), Cells) (notCells n t ys ∷ (large, Coefficient) ∷ (ltb room cells, CellRoom) ∷ (ltb first coefficients || ltb second coefficients, CoefficientRoom) ∷ []) p2 in
+      let (o4, p4) = refusal-none (not (eqb (length ys) (t * n)), Cells) ((large, Coefficient) ∷ (ltb room cells, CellRoom) ∷ (ltb first coefficients || ltb second coefficients, CoefficientRoom) ∷ []) p3 in
+      let (o5, p5) = refusal-none (large, Coefficient) ((ltb room cells, CellRoom) ∷ (ltb first coefficients || ltb second coefficients, CoefficientRoom) ∷ []) p4 in
+      let (o6, p6) = refusal-none (ltb room cells, CellRoom) ((ltb first coefficients || ltb second coefficients, CoefficientRoom) ∷ []) p5 in
+      let (o7, p7) = refusal-none (ltb first coefficients || ltb second coefficients, CoefficientRoom) [] p6 in
+      let (u, v) = neither (ltb first coefficients) (ltb second coefficients) o7 in
       let ea : a .cells ≡ cells = ap (λ (b : Sizes). b .cells) i in
       let eb : a .coefficients ≡ coefficients = ap (λ (b : Sizes). b .coefficients) i in
       record {

@@ -1,7 +1,7 @@
 -- What one turn of a pass, a branch or a count leaves, over plain numbers and lists: laws for the proofs of the functions that loop.
 use mathlib.Core.Path.{_≡_, refl, sym, ap, ap₂, _∙_}
 use mathlib.Core.Logic.{_⊎_, inl, inr}
-use mathlib.Core.Bool.{Bool, true, false, _||_}
+use mathlib.Core.Bool.{Bool, true, false, _||_, false≢true}
 use lib.Dec.{ltb}
 use borrow.Author.Tests.{lt-ltb}
 use mathlib.Core.List.{List}
@@ -102,6 +102,11 @@ module _ (a b r : ℤ) (p q s : ℕ) (fa : SFits w64 a) (fb : SFits w64 b) (fr :
   word-difference h e = toZ-ofZ fr ∙ er ∙ sym (wrap-sub w64 a b s fa fb h (ap (λ (y : ℕ). (s + y) % 2 ^ 64) (sym second) ∙ e ∙ first))
 
 -- one of two numbers that is below k
+-- two tests of which neither holds
+pub neither : (a b : Bool) → (a || b) ≡ false → (a ≡ false) × (b ≡ false)
+neither true b e = absurd (false≢true (sym e))
+neither false b e = (refl, e)
+
 pub either-short : (k x y z : ℕ) → (z ≡ x) ⊎ (z ≡ y) → z < k → (ltb x k || ltb y k) ≡ true
 either-short k x y z (inl e) h = rw (lt-ltb x k (rw e at h))
 either-short k x y z (inr e) h = rw (lt-ltb y k (rw e at h)) (or-true (ltb x k))

@@ -3,8 +3,8 @@
 -- In this file:
 --   beyond-stop, beyond-next, beyond-end, within   check 15, coefficient by coefficient
 --   refuses, gives                                 the outcomes
-use mathlib.Core.Path.{_≡_, refl, sym, ap, _∙_}
-use mathlib.Core.Bool.{Bool, true, false, _||_, false≢true}
+use mathlib.Core.Path.{_≡_, sym, ap, _∙_}
+use mathlib.Core.Bool.{Bool, true, false, _||_}
 use mathlib.Core.List.{List, [], _∷_, _++_}
 use mathlib.Core.Option.{none, some}
 use Prim.Native.Nat.{ℕ, zero, suc, _+_, _-_, _≤_, _<_}
@@ -26,6 +26,7 @@ use Rattle.numbers.specs.declared.asked.Sizes.{Sizes}
 use Rattle.numbers.specs.declared.numerator.LengthOutcome.{LengthOutcome}
 use Rattle.numbers.specs.declared.numerator.LengthAnswer.{LengthAnswer}
 use Rattle.numbers.proofs.RoomsCall.{Passed, checks, outcome, refused-is}
+use Rattle.numbers.proofs.ToLaws.{neither}
 
 -- check 15, coefficient by coefficient
 
@@ -41,14 +42,10 @@ beyond-next M G i h l e = e ∙ beyond-rest M G i h ∙ ap (λ (b : Bool). b || 
 pub beyond-end : (M : ℕ) (G : List ℤ) (i : ℕ) → length G ≤ i → beyond M G ≡ beyond M (drop i G) → false ≡ beyond M G
 beyond-end M G i h e = sym (e ∙ ap (beyond M) (drop-of-length-le G h))
 
-or-none : (a b : Bool) → (a || b) ≡ false → (a ≡ false) × (b ≡ false)
-or-none false b h = (refl, h)
-or-none true b h = absurd (false≢true (sym h))
-
 pub within : (M : ℕ) (G : List ℤ) → beyond M G ≡ false → (k : ℕ) → natAbs (coefficient G k) ≤ M
 within M [] h k = omega arith
-within M (z ∷ G) h zero = ltb-false M (natAbs z) (or-none (ltb M (natAbs z)) (beyond M G) h .0)
-within M (z ∷ G) h (suc k) = within M G (or-none (ltb M (natAbs z)) (beyond M G) h .1) k
+within M (z ∷ G) h zero = ltb-false M (natAbs z) (neither (ltb M (natAbs z)) (beyond M G) h .0)
+within M (z ∷ G) h (suc k) = within M G (neither (ltb M (natAbs z)) (beyond M G) h .1) k
 
 module _ (M n : ℕ) (G : List ℤ) (s0 : ℕ) (existing : List ℕ) (s1 : ℕ) (added room : List ℕ) (p q : List ℤ) (b : Bool) (eb : b ≡ beyond M G) where
   abbrev pub Outcome : LengthAnswer → List ℕ → List ℤ → List ℤ → Type 0
