@@ -1,6 +1,7 @@
 -- Facts that belong to no one function.
 mod Bits
 mod Steps
+mod Tally
 mod ToLaws
 mod TwoWords
 mod KeptSums

@@ -1,13 +1,12 @@
 -- What a step of a loop asks of its numbers: that they still fit a word of 64 bits, that a place lies in the list, that a measure falls.
 --   fits-..      a number below one that fits
 --   next-..      the next place, i + 1
---   sum-..       a sum of exponents
 --   row-.., cell-.. monomial i of m, n exponents each, in a list of L cells
 use mathlib.Core.Path.{_≡_, sym, ap, _∙_}
 use mathlib.Core.List.{List}
 use Prim.Native.Nat.{ℕ, _+_, _*_, _-_, _^_, _≤_, _<_}
 use native.Mathlib.Omega.{arith}
-use mir.Syntax.{w32, w64}
+use mir.Syntax.{w64}
 use mir.Val.{Fits}
 use lib.ListN.{length}
 use Rattle.laws.proofs.Rows.{at, at-length, row-end}
@@ -119,22 +118,3 @@ place-words i L h f = omega arith
 -- two monomials, the first before the second
 pub pair-first : (n i j L : ℕ) → i < j → (j + 1) * n ≤ L → i * n ≤ L
 pair-first n i j L h g = omega (arith, row-end n j i h, row-end n (j + 1) j (next-above j))
-
--- a sum d of i exponents, of L at most, in a word of 32 bits, and one exponent x more
-pub cell-fits : (x : ℕ) → x < 65536 → Fits w32 x
-cell-fits x h = omega arith
-
-pub sum-fits : (d i x L : ℕ) → d ≤ 65535 * i → i < L → L ≤ 65536 → x < 65536 → Fits w32 (d + x)
-sum-fits d i x L h g l f = omega arith
-
-pub sum-most : (d i x : ℕ) → d ≤ 65535 * i → x < 65536 → d + x ≤ 65535 * (i + 1)
-sum-most d i x h f = omega arith
-
-pub sum-next : (d x r t a : ℕ) → t ≡ x + r → d + t ≡ a → d + x + r ≡ a
-sum-next d x r t a e f = omega arith
-
-pub sum-least : (d i L : ℕ) → d ≤ 65535 * i → i ≤ L → L ≤ 65536 → d ≤ 4294901760
-sum-least d i L h g l = omega arith
-
-pub sum-widens : (d i L : ℕ) → d ≤ 65535 * i → i ≤ L → L ≤ 65536 → Fits w64 d
-sum-widens d i L h g l = omega arith

@@ -117,18 +117,18 @@ fn pairs_by_columns(n: usize, s: usize, cells: &[u16], us: &[u16]) -> usize
     pairs
 }
 
-// One list, by way of its lcm, which is written to us, zeros before. Where it has no square there are as many pairs as its degree tells, and
-// where no variable is in two monomials as many as it has variables.
+// One list, by way of its lcm, which is written to us, zeros before. Where no variable is in two monomials there are as many
+// pairs as it has variables, and where it has no square as many as its degree tells.
 fn by_columns(n: usize, s: usize, cells: &[u16], us: &mut [u16]) -> Extent
     requires { ⌜ Lists n s (now cells) 0 (now cells) × (length (now us) ≡ n) × ((v : ℕ) → getD (now us) v 0 ≡ 0) ⌝ }
     ensures { λ r. ⌜ Measured n (both n s (now (cells .entry)) 0 (now (cells .entry))) (r .pairs) (r .degree) ⌝ }
 {
     let common = join_all(us, s, cells);
     let degree = degree(us);
-    let pairs = if greatest_of(us) < 2 {
-        degree
-    } else if common == 0 {
+    let pairs = if common == 0 {
         used(us) as usize
+    } else if greatest_of(us) < 2 {
+        degree
     } else {
         pairs_by_columns(n, s, cells, us)
     };

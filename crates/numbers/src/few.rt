@@ -56,18 +56,37 @@ fn quotients(room: &mut [u16], n: usize, k: usize) -> bool
     false
 }
 
-// The degree of the quotient a : b.
-fn quotient_degree(a: &[u16], b: &[u16]) -> usize
+// The degrees of two monomials, and that of the quotient of the first by the second.
+struct Degrees {
+    first: usize,
+    second: usize,
+    quotient: usize,
+}
+
+// The three degrees in one pass.
+fn pair_degrees(a: &[u16], b: &[u16]) -> Degrees
     requires { ⌜ (length (now a) ≡ length (now b)) × (length (now a) ≤ 65536) ⌝ }
-    ensures { λ r. ⌜ (r ≡ degreeOf (quotient (now (a .entry)) (now (b .entry)))) × (r ≤ 4294901760) ⌝ }
+    ensures { λ r. ⌜ (r .first ≡ degreeOf (now (a .entry))) × (r .first ≤ 4294901760) ⌝ }
+    ensures { λ r. ⌜ (r .second ≡ degreeOf (now (b .entry))) × (r .second ≤ 4294901760) ⌝ }
+    ensures { λ r. ⌜ (r .quotient ≡ degreeOf (quotient (now (a .entry)) (now (b .entry)))) × (r .quotient ≤ 4294901760) ⌝ }
 {
     let mut d: u32 = 0;
+    let mut e: u32 = 0;
+    let mut q: u32 = 0;
     let mut i: usize = 0;
     while i < a.len() {
-        d += less(a[i], b[i]) as u32;
+        let x = a[i];
+        let y = b[i];
+        d += x as u32;
+        e += y as u32;
+        q += less(x, y) as u32;
         i += 1;
     }
-    d as usize
+    Degrees {
+        first: d as usize,
+        second: e as usize,
+        quotient: q as usize,
+    }
 }
 
 // t^shift times 1 - t^d times the seed, added to out or taken off it, cut at its length.
@@ -97,11 +116,13 @@ fn at_most_two(
         return;
     }
     let a = row(room, n, 0);
-    if m == 2 {
-        let b = row(room, n, 1);
-        add_factor(out, shift + degree(b), quotient_degree(a, b), seed, !neg);
+    if m == 1 {
+        add_factor(out, shift, degree(a), seed, neg);
+        return;
     }
-    add_factor(out, shift, degree(a), seed, neg);
+    let d = pair_degrees(a, row(room, n, 1));
+    add_factor(out, shift + d.second, d.quotient, seed, !neg);
+    add_factor(out, shift, d.first, seed, neg);
 }
 
 // t^shift times the seed times the numerator, added to out or taken off it, cut at its length; nothing where `unit` says that the

@@ -65,7 +65,7 @@ pub(crate) fn put_list(room: &mut [u16], n: usize, s: usize, cells: &[u16]) -> u
     requires { ⌜ (length (now cells) ≡ s * n) × (s * n ≤ length (now room)) × (n ≤ 255) ⌝ }
     ensures { λ r. ⌜ Narrowed n s (now (cells .entry)) (now (room .entry)) r (now (room .exit)) ⌝ }
 {
-    if n <= 32 {
+    if (n <= 32) | (s <= 3) {
         put_cells(room, 0, cells);
         return n;
     }
