@@ -2,8 +2,11 @@
 --   Unit L                       == a member of L is 1
 --   Quotients n k xs i unit ys   == the quotients of the first i monomials by number k lie behind the first k + 1; where `unit` holds, those that were
 --                                   not written do not matter: one of the cells' monomials is 1, and one of the k quotients
--- In this file: the loop's steps, one turn (few-step), a branch that is dropped (unit-none, added-none, added-past), the cells wanted, one and two
--- monomials (single-sums, pair-sums).
+--   DegreeIs d a                 == d is the degree of a, and fits a word of 32 bits
+--   factor P d neg               == P (1 - t^d), or less that
+--   pair P d e q neg             == P times the numerator of two monomials of degrees d and e, the first's quotient by the second of degree q, or less that
+-- In this file: the loop's steps, one turn (few-step), a branch that is dropped (unit-none, added-none, added-past), the cells wanted, one, two and
+-- three monomials by degrees (factor-sums, single-sums, pair-sums, two-sums, three-sums).
 use mathlib.Core.Path.{_≡_, refl, sym, ap, ap₂, _∙_}
 use mathlib.Core.Logic.{inl, inr}
 use mathlib.Core.Bool.{Bool, true, false, not, _||_, false≢true}
@@ -164,17 +167,18 @@ by-shift true (suc d) f zero = refl
 by-shift false (suc d) f zero = refl
 by-shift b (suc d) f (suc k) = by-shift b d f k
 
+cons-one : (P : List ℤ) (neg : Bool) (m : List ℕ) (L : List (List ℕ)) (j : ℕ) → by neg (seeded (coefficient P) [] (m ∷ L) j)
+    ≡ shift (degree m) (λ i. by (not neg) (seeded (coefficient P) [] (colon L m) i)) j +ℤ by neg (seeded (coefficient P) [] L j)
+cons-one P neg m L j =
+    ap (by neg) (seeded-cons (coefficient P) m L j)
+    ∙ by-sub neg (seeded (coefficient P) [] L j) (shift (degree m) (seeded (coefficient P) [] (colon L m)) j)
+    ∙ ap (λ (z : ℤ). z +ℤ by neg (seeded (coefficient P) [] L j)) (by-shift (not neg) (degree m) (seeded (coefficient P) [] (colon L m)) j)
+
 pub cons-turn : (P : List ℤ) (s : ℕ) (neg : Bool) (m : List ℕ) (L : List (List ℕ)) (k : ℕ) → shift s (λ j. by neg (seeded (coefficient P) [] (m ∷ L) j)) k
     ≡ shift (s + degree m) (λ j. by (not neg) (seeded (coefficient P) [] (colon L m) j)) k +ℤ shift s (λ j. by neg (seeded (coefficient P) [] L j)) k
 cons-turn P s neg m L k =
-    shift-add s (λ j. by neg (seeded (coefficient P) [] (m ∷ L) j)) (shift (degree m) (λ j. by (not neg) (seeded (coefficient P) [] (colon L m) j))) (λ j. by neg (seeded (coefficient P) [] L j)) one k
+    shift-add s (λ j. by neg (seeded (coefficient P) [] (m ∷ L) j)) (shift (degree m) (λ j. by (not neg) (seeded (coefficient P) [] (colon L m) j))) (λ j. by neg (seeded (coefficient P) [] L j)) (cons-one P neg m L) k
     ∙ ap (λ (z : ℤ). z +ℤ shift s (λ j. by neg (seeded (coefficient P) [] L j)) k) (shift-shift s (degree m) (λ j. by (not neg) (seeded (coefficient P) [] (colon L m) j)) k)
-  where
-    one : (j : ℕ) → by neg (seeded (coefficient P) [] (m ∷ L) j) ≡ shift (degree m) (λ i. by (not neg) (seeded (coefficient P) [] (colon L m) i)) j +ℤ by neg (seeded (coefficient P) [] L j)
-    one j =
-        ap (by neg) (seeded-cons (coefficient P) m L j)
-        ∙ by-sub neg (seeded (coefficient P) [] L j) (shift (degree m) (seeded (coefficient P) [] (colon L m)) j)
-        ∙ ap (λ (z : ℤ). z +ℤ by neg (seeded (coefficient P) [] L j)) (by-shift (not neg) (degree m) (seeded (coefficient P) [] (colon L m)) j)
 
 -- a unit: the numerator is 0
 unit-zero : (L : List (List ℕ)) → Unit L → (k : ℕ) → numeratorAt L k ≡ pos 0
@@ -268,16 +272,20 @@ pub few-step : (P : List ℤ) (n l m d s : ℕ) (neg unit : Bool) (xs A G : List
 few-step P n l m d s neg unit xs A G h fits e q g k =
     ap (λ (z : ℕ). shift s (λ j. by neg (seeded (coefficient P) [] (rows n z xs) j)) k) (sym h) ∙ few-turn P n l d s neg unit xs A G fits e q g k
 
--- one monomial and two, by degrees
+-- one monomial, two and three, by degrees
+abbrev pub DegreeIs : ℕ → List ℕ → Type 0
+DegreeIs d a = (d ≡ degree a) × (d ≤ 4294901760)
+
+-- what is added in two steps
+added-both : (f g h : ℕ → ℤ) (out mid new : List ℤ) → ((k : ℕ) → f k ≡ g k +ℤ h k) → AddedTo g out mid → AddedTo h mid new → AddedTo f out new
+added-both f g h out mid new e u v = running-leaf f out h mid new v (running-more f out f g h out mid e u (running-none f out))
+
 abbrev pub factor : List ℤ → ℕ → Bool → ℕ → ℤ
 factor P d neg k = by neg (coefficient P k -ℤ shift d (coefficient P) k)
 
 pub factor-sums : (P : List ℤ) (s d : ℕ) (neg : Bool) (out mid new : List ℤ) → AddedTo (shift s (λ k. by neg (coefficient P k))) out mid → AddedTo (shift (s + d) (λ k. by (not neg) (coefficient P k))) mid new
     → AddedTo (shift s (factor P d neg)) out new
-factor-sums P s d neg out mid new a b =
-    running-leaf (shift s (factor P d neg)) out (shift (s + d) (λ k. by (not neg) (coefficient P k))) mid new b
-    (running-more (shift s (factor P d neg)) out (shift s (factor P d neg)) (shift s (λ k. by neg (coefficient P k))) (shift (s + d) (λ k. by (not neg) (coefficient P k))) out mid turn a
-    (running-none (shift s (factor P d neg)) out))
+factor-sums P s d neg out mid new = added-both (shift s (factor P d neg)) (shift s (λ k. by neg (coefficient P k))) (shift (s + d) (λ k. by (not neg) (coefficient P k))) out mid new turn
   where
     turn : (k : ℕ) → shift s (factor P d neg) k ≡ shift s (λ j. by neg (coefficient P j)) k +ℤ shift (s + d) (λ j. by (not neg) (coefficient P j)) k
     turn k =
@@ -289,13 +297,48 @@ pub single-sums : (P : List ℤ) (n s d : ℕ) (neg : Bool) (xs : List ℕ) (out
     → AddedTo (shift s (λ k. by neg (seeded (coefficient P) [] (rows n 1 xs) k))) out new
 single-sums P n s d neg xs out new e a = rw (← e) a
 
-pub pair-sums : (P : List ℤ) (n s b d c : ℕ) (neg : Bool) (xs : List ℕ) (out mid new : List ℤ) → b ≡ degree (at n 1 xs) → d ≡ degree (quotient (at n 0 xs) (at n 1 xs)) → c ≡ degree (at n 0 xs)
-    → AddedTo (shift (s + b) (factor P d (not neg))) out mid → AddedTo (shift s (factor P c neg)) mid new
-    → AddedTo (shift s (λ k. by neg (seeded (coefficient P) [] (rows n 2 xs) k))) out new
-pair-sums P n s b d c neg xs out mid new e f g u v =
-    running-leaf whole out (shift s (factor P c neg)) mid new v
-    (running-more whole out whole (shift (s + b) (factor P d (not neg))) (shift s (factor P c neg)) out mid
-    (λ k. rw (e, f, g) (cons-turn P s neg (at n 1 xs) (at n 0 xs ∷ []) k)) u (running-none whole out))
+abbrev pub pair : List ℤ → ℕ → ℕ → ℕ → Bool → ℕ → ℤ
+pair P d e q neg k = shift e (factor P q (not neg)) k +ℤ factor P d neg k
+
+pub pair-sums : (P : List ℤ) (s d e q : ℕ) (neg : Bool) (out mid new : List ℤ) → AddedTo (shift (s + e) (factor P q (not neg))) out mid → AddedTo (shift s (factor P d neg)) mid new
+    → AddedTo (shift s (pair P d e q neg)) out new
+pair-sums P s d e q neg out mid new =
+    added-both (shift s (pair P d e q neg)) (shift (s + e) (factor P q (not neg))) (shift s (factor P d neg)) out mid new
+    (λ k. shift-add s (pair P d e q neg) (shift e (factor P q (not neg))) (factor P d neg) (λ j. refl) k
+    ∙ ap (λ (z : ℤ). z +ℤ shift s (factor P d neg) k) (shift-shift s e (factor P q (not neg)) k))
+
+pair-is : (P : List ℤ) (neg : Bool) (a b : List ℕ) (d e q : ℕ) → d ≡ degree a → e ≡ degree b → q ≡ degree (quotient a b)
+    → (k : ℕ) → by neg (seeded (coefficient P) [] (b ∷ a ∷ []) k) ≡ pair P d e q neg k
+pair-is P neg a b d e q f g h k = rw (f, g, h) (cons-one P neg b (a ∷ []) k)
+
+pub two-sums : (P : List ℤ) (n s d e q : ℕ) (neg : Bool) (xs : List ℕ) (out new : List ℤ) → d ≡ degree (at n 0 xs) → e ≡ degree (at n 1 xs) → q ≡ degree (quotient (at n 0 xs) (at n 1 xs))
+    → AddedTo (shift s (pair P d e q neg)) out new → AddedTo (shift s (λ k. by neg (seeded (coefficient P) [] (rows n 2 xs) k))) out new
+two-sums P n s d e q neg xs out new f g h a =
+    record {
+      len = a .len;
+      sums = λ k l. a .sums k l ∙ ap (λ (z : ℤ). low (coefficient out k +ℤ z)) (sym (shift-ext s (λ j. by neg (seeded (coefficient P) [] (rows n 2 xs) j)) (pair P d e q neg) (pair-is P neg (at n 0 xs) (at n 1 xs) d e q f g h) k));
+      words = a .words;
+    }
+
+-- the third monomial, then what it leaves of the first two
+pub three-sums : (P : List ℤ) (n s : ℕ) (neg : Bool) (xs : List ℕ) (d e q c d′ e′ q′ : ℕ) (out mid new : List ℤ) → d ≡ degree (at n 0 xs) → e ≡ degree (at n 1 xs) → q ≡ degree (quotient (at n 0 xs) (at n 1 xs))
+    → c ≡ degree (at n 2 xs) → d′ ≡ degree (quotient (at n 0 xs) (at n 2 xs)) → e′ ≡ degree (quotient (at n 1 xs) (at n 2 xs))
+    → q′ ≡ degree (quotient (quotient (at n 0 xs) (at n 2 xs)) (quotient (at n 1 xs) (at n 2 xs)))
+    → AddedTo (shift (s + c) (pair P d′ e′ q′ (not neg))) out mid → AddedTo (shift s (pair P d e q neg)) mid new
+    → AddedTo (shift s (λ k. by neg (seeded (coefficient P) [] (rows n 3 xs) k))) out new
+three-sums P n s neg xs d e q c d′ e′ q′ out mid new fd fe fq fc gd ge gq =
+    added-both (shift s (λ k. by neg (seeded (coefficient P) [] (rows n 3 xs) k))) (shift (s + c) (pair P d′ e′ q′ (not neg))) (shift s (pair P d e q neg)) out mid new
+    (λ k. cons-turn P s neg z (y ∷ x ∷ []) k
+    ∙ ap₂ _+ℤ_
+    (shift-ext (s + degree z) (λ j. by (not neg) (seeded (coefficient P) [] (colon (y ∷ x ∷ []) z) j)) (pair P d′ e′ q′ (not neg)) (pair-is P (not neg) (quotient x z) (quotient y z) d′ e′ q′ gd ge gq) k
+    ∙ ap (λ (t : ℕ). shift (s + t) (pair P d′ e′ q′ (not neg)) k) (sym fc))
+    (shift-ext s (λ j. by neg (seeded (coefficient P) [] (y ∷ x ∷ []) j)) (pair P d e q neg) (pair-is P neg x y d e q fd fe fq) k))
   where
-    whole : ℕ → ℤ
-    whole = shift s (λ k. by neg (seeded (coefficient P) [] (rows n 2 xs) k))
+    x : List ℕ
+    x = at n 0 xs
+
+    y : List ℕ
+    y = at n 1 xs
+
+    z : List ℕ
+    z = at n 2 xs

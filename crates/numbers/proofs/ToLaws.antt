@@ -250,14 +250,14 @@ row-within n i z xs a e h = rw (e, length-take) (omega arith)
 pub shift-small : (s : ℕ) → s < 2305843009213693952 → s < 4611686018427387904
 shift-small s h = omega arith
 
-pub shift-more : (s d : ℕ) → s < 2305843009213693952 → d ≤ 4294901760 → s + d < 4611686018427387904
+pub shift-more : (s d : ℕ) → s < 2305843009213693952 → d ≤ 4294901760 → s + d < 2305843009213693952 + 4294901760
 shift-more s d h g = omega arith
 
 pub shift-fits : (s d : ℕ) → s < 2305843009213693952 → d ≤ 4294901760 → Fits w64 (s + d)
 shift-fits s d h g = omega arith
 
 -- Few: one turn, of a list of left monomials by its last one
-module _ (n m left L : ℕ) (h : left ≤ m) (s : 2 < left) (g : m * m * n ≤ L) where
+module _ (n m left L : ℕ) (h : left ≤ m) (s : 3 < left) (g : m * m * n ≤ L) where
   pub last-below-all : left - 1 < m
   last-below-all = omega arith
 
@@ -273,13 +273,13 @@ module _ (n m left L : ℕ) (h : left ≤ m) (s : 2 < left) (g : m * m * n ≤ L
   pub last-one-more : left - 1 + 1 ≡ left
   last-one-more = omega arith
 
-pub some-left : (left : ℕ) → 2 < left → 1 ≤ left
+pub some-left : (left : ℕ) → 3 < left → 1 ≤ left
 some-left left h = omega arith
 
-pub last-falls : (left m t : ℕ) → m ≡ t → 2 < left → left ≤ m → left - 1 < t
+pub last-falls : (left m t : ℕ) → m ≡ t → 3 < left → left ≤ m → left - 1 < t
 last-falls left m t e h g = omega arith
 
-pub last-fewer : (left : ℕ) → 2 < left → left - 1 < left
+pub last-fewer : (left : ℕ) → 3 < left → left - 1 < left
 last-fewer left h = omega arith
 
 pub shift-below : (s d L : ℕ) → s < L → L * 8 < 2 ^ 63 → d ≤ 4294901760 → s + d < 2305843009213693952

@@ -1,4 +1,5 @@
-// Few monomials: N(L, a) = N(L) - t^deg(a) N(L : a), the last monomial first, the quotients written behind the list.
+// Few monomials: N(L, a) = N(L) - t^deg(a) N(L : a), the last monomial first, the quotients written behind the list; three and fewer by their
+// degrees alone.
 use crate::leaf::add_shifted;
 use crate::leaf::degree;
 use crate::minimal::less;
@@ -10,10 +11,10 @@ ghost use Prim.Native.Nat.{ℕ, _+_, _-_, _*_, _<_, _≤_};
 ghost use lib.IntN.{pos};
 ghost use lib.ListN.{length, getD};
 ghost use Rattle.laws.specs.Coefficients.{coefficient, shift as shifted};
-ghost use Rattle.laws.specs.Monomial.{degree as degreeOf, quotient};
+ghost use Rattle.laws.specs.Monomial.{quotient};
 ghost use Rattle.laws.specs.Numerator.{numeratorAt};
 ghost use Rattle.laws.proofs.Added.{AddedTo};
-ghost use Rattle.laws.proofs.Few.{Quotients, factor};
+ghost use Rattle.laws.proofs.Few.{DegreeIs, Quotients, factor, pair};
 ghost use Rattle.laws.proofs.Leaf.{by};
 ghost use Rattle.laws.proofs.Rows.{Wrote, rows};
 ghost use Rattle.laws.proofs.Seed.{seeded};
@@ -56,36 +57,86 @@ fn quotients(room: &mut [u16], n: usize, k: usize) -> bool
     false
 }
 
-// The degrees of two monomials, and that of the quotient of the first by the second.
-struct Degrees {
-    first: usize,
-    second: usize,
-    quotient: usize,
+// Degrees: of the monomials a and b and of the quotient a : b.
+struct Pair {
+    a: usize,
+    b: usize,
+    ab: usize,
 }
 
-// The three degrees in one pass.
-fn pair_degrees(a: &[u16], b: &[u16]) -> Degrees
+// The same of three: further of c, of a : c and b : c, and of the quotient of these two.
+struct Triple {
+    a: usize,
+    b: usize,
+    ab: usize,
+    c: usize,
+    ac: usize,
+    bc: usize,
+    acbc: usize,
+}
+
+// The degrees of two monomials, in one pass.
+fn pair_degrees(a: &[u16], b: &[u16]) -> Pair
     requires { ⌜ (length (now a) ≡ length (now b)) × (length (now a) ≤ 65536) ⌝ }
-    ensures { λ r. ⌜ (r .first ≡ degreeOf (now (a .entry))) × (r .first ≤ 4294901760) ⌝ }
-    ensures { λ r. ⌜ (r .second ≡ degreeOf (now (b .entry))) × (r .second ≤ 4294901760) ⌝ }
-    ensures { λ r. ⌜ (r .quotient ≡ degreeOf (quotient (now (a .entry)) (now (b .entry)))) × (r .quotient ≤ 4294901760) ⌝ }
+    ensures { λ r. ⌜ DegreeIs (r .a) (now (a .entry)) × DegreeIs (r .b) (now (b .entry)) × DegreeIs (r .ab) (quotient (now (a .entry)) (now (b .entry))) ⌝ }
 {
-    let mut d: u32 = 0;
-    let mut e: u32 = 0;
-    let mut q: u32 = 0;
+    let mut da: u32 = 0;
+    let mut db: u32 = 0;
+    let mut dab: u32 = 0;
     let mut i: usize = 0;
     while i < a.len() {
         let x = a[i];
         let y = b[i];
-        d += x as u32;
-        e += y as u32;
-        q += less(x, y) as u32;
+        da += x as u32;
+        db += y as u32;
+        dab += less(x, y) as u32;
         i += 1;
     }
-    Degrees {
-        first: d as usize,
-        second: e as usize,
-        quotient: q as usize,
+    Pair {
+        a: da as usize,
+        b: db as usize,
+        ab: dab as usize,
+    }
+}
+
+// The degrees of three monomials, in one pass.
+fn triple_degrees(a: &[u16], b: &[u16], c: &[u16]) -> Triple
+    requires { ⌜ (length (now a) ≡ length (now b)) × (length (now a) ≡ length (now c)) × (length (now a) ≤ 65536) ⌝ }
+    ensures { λ r. ⌜ DegreeIs (r .a) (now (a .entry)) × DegreeIs (r .b) (now (b .entry)) × DegreeIs (r .ab) (quotient (now (a .entry)) (now (b .entry))) × DegreeIs (r .c) (now (c .entry)) ⌝ }
+    ensures { λ r. ⌜ DegreeIs (r .ac) (quotient (now (a .entry)) (now (c .entry))) × DegreeIs (r .bc) (quotient (now (b .entry)) (now (c .entry))) ⌝ }
+    ensures { λ r. ⌜ DegreeIs (r .acbc) (quotient (quotient (now (a .entry)) (now (c .entry))) (quotient (now (b .entry)) (now (c .entry)))) ⌝ }
+{
+    let mut da: u32 = 0;
+    let mut db: u32 = 0;
+    let mut dab: u32 = 0;
+    let mut dc: u32 = 0;
+    let mut dac: u32 = 0;
+    let mut dbc: u32 = 0;
+    let mut dacbc: u32 = 0;
+    let mut i: usize = 0;
+    while i < a.len() {
+        let x = a[i];
+        let y = b[i];
+        let z = c[i];
+        let p = less(x, z);
+        let q = less(y, z);
+        da += x as u32;
+        db += y as u32;
+        dab += less(x, y) as u32;
+        dc += z as u32;
+        dac += p as u32;
+        dbc += q as u32;
+        dacbc += less(p, q) as u32;
+        i += 1;
+    }
+    Triple {
+        a: da as usize,
+        b: db as usize,
+        ab: dab as usize,
+        c: dc as usize,
+        ac: dac as usize,
+        bc: dbc as usize,
+        acbc: dacbc as usize,
     }
 }
 
@@ -98,8 +149,25 @@ fn add_factor(out: &mut [i64], shift: usize, d: usize, seed: &[i64], neg: bool)
     add_shifted(out, shift + d, seed, !neg);
 }
 
-// At most two monomials: 1 - t^deg(a) - t^deg(b) (1 - t^deg(a : b)).
-fn at_most_two(
+// t^shift times the seed times the numerator of a and b by their degrees, 1 - t^a - t^b (1 - t^ab), added to out or taken off it.
+fn add_pair(
+    out: &mut [i64],
+    shift: usize,
+    a: usize,
+    b: usize,
+    ab: usize,
+    seed: &[i64],
+    neg: bool,
+)
+    requires { ⌜ (shift < 2305843009213693952 + 4294901760) × (a ≤ 4294901760) × (b ≤ 4294901760) × (ab ≤ 4294901760) ⌝ }
+    ensures { λ _. ⌜ AddedTo (shifted shift (pair (now (seed .entry)) a b ab neg)) (now (out .entry)) (now (out .exit)) ⌝ }
+{
+    add_factor(out, shift + b, ab, seed, !neg);
+    add_factor(out, shift, a, seed, neg);
+}
+
+// At most three monomials, by degrees alone: N(a, b, c) = N(a, b) - t^deg(c) N(a : c, b : c).
+fn at_most_three(
     room: &[u16],
     n: usize,
     m: usize,
@@ -108,7 +176,7 @@ fn at_most_two(
     seed: &[i64],
     out: &mut [i64],
 )
-    requires { ⌜ (m * n ≤ length (now room)) × (m ≤ 2) × (n ≤ 65536) × (shift < 2305843009213693952) ⌝ }
+    requires { ⌜ (m * n ≤ length (now room)) × (m ≤ 3) × (n ≤ 65536) × (shift < 2305843009213693952) ⌝ }
     ensures { λ _. ⌜ AddedTo (shifted shift (λ k. by neg (seeded (coefficient (now (seed .entry))) [] (rows n m (now (room .entry))) k))) (now (out .entry)) (now (out .exit)) ⌝ }
 {
     if m == 0 {
@@ -120,9 +188,15 @@ fn at_most_two(
         add_factor(out, shift, degree(a), seed, neg);
         return;
     }
-    let d = pair_degrees(a, row(room, n, 1));
-    add_factor(out, shift + d.second, d.quotient, seed, !neg);
-    add_factor(out, shift, d.first, seed, neg);
+    let b = row(room, n, 1);
+    if m == 2 {
+        let d = pair_degrees(a, b);
+        add_pair(out, shift, d.a, d.b, d.ab, seed, neg);
+        return;
+    }
+    let d = triple_degrees(a, b, row(room, n, 2));
+    add_pair(out, shift + d.c, d.ac, d.bc, d.acbc, seed, !neg);
+    add_pair(out, shift, d.a, d.b, d.ab, seed, neg);
 }
 
 // t^shift times the seed times the numerator, added to out or taken off it, cut at its length; nothing where `unit` says that the
@@ -148,12 +222,12 @@ pub(crate) fn few(
         return;
     }
     let mut left = m;
-    while left > 2 {
+    while left > 3 {
         left -= 1;
         let d = degree(row(room, n, left));
         let u = quotients(room, n, left);
         let behind = left * n + n;
         few(&mut room[behind..], n, left, u, !neg, shift + d, seed, out);
     }
-    at_most_two(room, n, left, neg, shift, seed, out);
+    at_most_three(room, n, left, neg, shift, seed, out);
 }

@@ -18,7 +18,7 @@ use borrow.Rule.Slice.PartMut.{putMid}
 use Rattle.numbers.proofs.few.few.Reads as few
 use Rattle.numbers.proofs.few.few.Kinds as few-kinds
 use Rattle.numbers.proofs.few.+few.Lts-few as few-lts
-use Rattle.numbers.proofs.few.at_most_two.Reads as at-most-two-reads
+use Rattle.numbers.proofs.few.at_most_three.Reads as at-most-three-reads
 use Rattle.numbers.proofs.leaf.degree.Reads as degree-reads
 use Rattle.numbers.proofs.rows.row.Reads as row-reads
 use Rattle.numbers.proofs.few.quotients.Reads as quotients-reads
@@ -52,8 +52,8 @@ pub +few-spec : {M : Type 1} → statement M
   quotients-reads.Learnt,
   few-below t,
   few.Post,
-  at-most-two-reads.Asked,
-  at-most-two-reads.Learnt,
+  at-most-three-reads.Asked,
+  at-most-three-reads.Learnt,
 )
     (few-at t)
     few.Post
@@ -78,5 +78,5 @@ pub +few-spec : {M : Type 1} → statement M
     (λ c. let p3 = c .before .before .before in let p8 = p3 .before .before .before .before .before in let p10 = p8 .before .before in let p11 = p10 .before in let p13 = p11 .before .before in let p14 = p13 .before in let p18 = p14 .before .before .before .before in (le-of-lt (last-below-all (p18 .args .n) (p18 .args .m) (p14 .loop .left) (length (p18 .args .room .now)) (p14 .loop .inv .0) (p13 .loop-test .taken) (p18 .pre .1 .0 .0)), put-length ((p14 .loop .left - 1) * (p18 .args .n) + (p18 .args .n)) (p8 .quotients .last .0) (p3 .few .last .0) (p3 .few .kept .0) ∙ (p8 .quotients .ensures .len ∙ p14 .loop .inv .1), running-more (shifted (p18 .args .shift) (λ k. by (p18 .args .neg) (seeded (coefficient (p18 .args .seed .now)) [] (rows (p18 .args .n) (p18 .args .m) (p18 .args .room .now)) k))) (p18 .args .out .now) (shifted (p18 .args .shift) (λ k. by (p18 .args .neg) (seeded (coefficient (p18 .args .seed .now)) [] (rows (p18 .args .n) (p14 .loop .left) (p14 .loop .room)) k))) (shifted (p18 .args .shift + p10 .degree .result) (λ k. by (not (p18 .args .neg)) (seeded (coefficient (p18 .args .seed .now)) [] (rows (p18 .args .n) (p14 .loop .left - 1) (take (length (p8 .quotients .last .0) - ((p14 .loop .left - 1) * (p18 .args .n) + (p18 .args .n))) (drop ((p14 .loop .left - 1) * (p18 .args .n) + (p18 .args .n)) (p8 .quotients .last .0)))) k))) (shifted (p18 .args .shift) (λ k. by (p18 .args .neg) (seeded (coefficient (p18 .args .seed .now)) [] (rows (p18 .args .n) (p14 .loop .left - 1) (putMid ((p14 .loop .left - 1) * (p18 .args .n) + (p18 .args .n)) (length (p8 .quotients .last .0) - ((p14 .loop .left - 1) * (p18 .args .n) + (p18 .args .n))) (p8 .quotients .last .0) (p3 .few .last .0))) k))) (p14 .loop .out) (p3 .few .last .1 .1 .1 .1 .1 .1 .1 .0) (few-step (p18 .args .seed .now) (p18 .args .n) (p14 .loop .left - 1) (p14 .loop .left) (p10 .degree .result) (p18 .args .shift) (p18 .args .neg) (p8 .quotients .result) (p14 .loop .room) (p8 .quotients .last .0) (p3 .few .last .0) (last-one-more (p18 .args .n) (p18 .args .m) (p14 .loop .left) (length (p18 .args .room .now)) (p14 .loop .inv .0) (p13 .loop-test .taken) (p18 .pre .1 .0 .0)) (le-trans (last-two (p18 .args .n) (p18 .args .m) (p14 .loop .left) (length (p18 .args .room .now)) (p14 .loop .inv .0) (p13 .loop-test .taken) (p18 .pre .1 .0 .0)) (le-of-eq (sym (p14 .loop .inv .1)))) (p10 .degree .ensures .0 ∙ ap degree (p11 .row .ensures)) (p8 .quotients .ensures) (p3 .few .kept .0)) (p3 .few .ensures) (p14 .loop .inv .2)))
     (λ c κs. let p2 = c .before .before in let p3 = p2 .before in let p7 = p3 .before .before .before .before in (le-trans (room-one (p7 .args .n) (p7 .args .m) (p3 .loop .left) (length (p7 .args .room .now)) (p3 .loop .inv .0) (p7 .pre .1 .0 .0)) (le-of-eq (sym (p3 .loop .inv .1))), p2 .loop-test .left, p7 .pre .1 .0 .1, p7 .pre .1 .0 .2))
     (λ c. let p5 = c .before .before .before .before .before in p5 .loop .inv .1)
-    (λ c. let p1 = c .before in let p5 = p1 .before .before .before .before in p1 .at-most-two .kept .1 .1 .1 .1 .1 .1 .0 ∙ p5 .loop .inv .2 .len)
-    (λ c. let p1 = c .before in let p5 = p1 .before .before .before .before in let p9 = p5 .before .before .before .before in running-leaf (shifted (p9 .args .shift) (λ k. by (p9 .args .neg) (seeded (coefficient (p9 .args .seed .now)) [] (rows (p9 .args .n) (p9 .args .m) (p9 .args .room .now)) k))) (p9 .args .out .now) (shifted (p9 .args .shift) (λ k. by (p9 .args .neg) (seeded (coefficient (p9 .args .seed .now)) [] (rows (p9 .args .n) (p5 .loop .left) (p5 .loop .room)) k))) (p5 .loop .out) (p1 .at-most-two .last .1 .1 .1 .1 .1 .1 .0) (p1 .at-most-two .ensures) (p5 .loop .inv .2))
+    (λ c. let p1 = c .before in let p5 = p1 .before .before .before .before in p1 .at-most-three .kept .1 .1 .1 .1 .1 .1 .0 ∙ p5 .loop .inv .2 .len)
+    (λ c. let p1 = c .before in let p5 = p1 .before .before .before .before in let p9 = p5 .before .before .before .before in running-leaf (shifted (p9 .args .shift) (λ k. by (p9 .args .neg) (seeded (coefficient (p9 .args .seed .now)) [] (rows (p9 .args .n) (p9 .args .m) (p9 .args .room .now)) k))) (p9 .args .out .now) (shifted (p9 .args .shift) (λ k. by (p9 .args .neg) (seeded (coefficient (p9 .args .seed .now)) [] (rows (p9 .args .n) (p5 .loop .left) (p5 .loop .room)) k))) (p5 .loop .out) (p1 .at-most-three .last .1 .1 .1 .1 .1 .1 .0) (p1 .at-most-three .ensures) (p5 .loop .inv .2))
