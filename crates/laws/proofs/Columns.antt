@@ -1,13 +1,13 @@
 -- The greatest exponent of each variable, monomial by monomial.
---   Joined n s cells i us vs  == in vs stands for each of n variables the greatest of its first i exponents in the s monomials, or what us has
---   Unshared us m v              == no variable below v has an exponent above 0 in both us and m
+--   Joined n s cells i us     == in us stands for each of n variables the greatest of its first i exponents in the s monomials
+--   Unshared us m v           == no variable below v has an exponent above 0 in both us and m
 --   Single n s cells i        == each of n variables has an exponent above 0 in one of the first i monomials at most: its exponents add up to the greatest
 --   Greatest n L us           == us has for each of n variables its greatest exponent in L
 -- In this file:
---   joined-none, joined-more  no monomial, and one more
---   joined-zeros              all, joined with zeros: the greatest of each variable
+--   joined-none, joined-more, joined-first   no monomial, one more, and the first, copied
+--   joined-all                all: the greatest of each variable
 --   joined-zero               where it is 0, every monomial has 0
---   unshared-.., single-..       monomials of which no two have a variable in common, cell by cell and one by one
+--   unshared-.., single-..    monomials of which no two have a variable in common, cell by cell and one by one
 --   held-most, greatest-held  what stands in a list is at most its greatest, and that stands in it
 --   distinct-at, degree-greatest, pairs-greatest   the different exponents of a variable, the degree of the lcm and e by these
 --   few-distinct              a greatest of at most 1 is how many different ones other than 0 there are
@@ -101,24 +101,24 @@ degree-take (x ∷ xs) (suc k) = omega (arith, degree-take xs k)
 
 -- the greatest exponents, monomial by monomial
 
-unfoldable pub Joined : ℕ → ℕ → List ℕ → ℕ → List ℕ → List ℕ → Type 0
-Joined n s cells i us vs = (j : ℕ) → j < n → getD vs j 0 ≡ max (getD us j 0) (greatest (take i (column (listed n s cells) j)))
+unfoldable pub Joined : ℕ → ℕ → List ℕ → ℕ → List ℕ → Type 0
+Joined n s cells i us = (j : ℕ) → j < n → getD us j 0 ≡ greatest (take i (column (listed n s cells) j))
 
-pub joined-none : (n s : ℕ) (cells us : List ℕ) → Joined n s cells 0 us us
+pub joined-none : (n s : ℕ) (cells us : List ℕ) → ((j : ℕ) → getD us j 0 ≡ 0) → Joined n s cells 0 us
 unfolding Joined
-joined-none n s cells us j h = omega arith
+joined-none n s cells us z j h = z j
 
 -- exponent j of monomial number k
 cell-of : (n s k : ℕ) (cells m : List ℕ) → k < s → m ≡ at n k cells → (j : ℕ) → j < n → getD m j 0 ≡ getD (column (listed n s cells) j) k 0
 cell-of n s k cells m h e j l = ap (λ (y : List ℕ). getD y j 0) e ∙ at-cell n k j cells l ∙ sym (column-listed n s cells j k l h)
 
-pub joined-more : (n s k : ℕ) (cells us vs ws m : List ℕ) → k < s → m ≡ at n k cells → Wrote vs (λ j. max (getD vs j 0) (getD m j 0)) 0 n ws → Joined n s cells k us vs → Joined n s cells (k + 1) us ws
+pub joined-more : (n s k : ℕ) (cells us vs m : List ℕ) → k < s → m ≡ at n k cells → Wrote us (λ j. max (getD us j 0) (getD m j 0)) 0 n vs → Joined n s cells k us → Joined n s cells (k + 1) vs
 unfolding Joined
-joined-more n s k cells us vs ws m h e w g j l =
+joined-more n s k cells us vs m h e w g j l =
     rw (add-one k) (omega (arith, here, cell-of n s k cells m h e j l, g j l, greatest-take (column (listed n s cells) j) k))
   where
-    here : getD ws j 0 ≡ max (getD vs j 0) (getD m j 0)
-    here = let f : j ≡ 0 + j = omega arith in ap (λ (y : ℕ). getD ws y 0) f ∙ w .there j l
+    here : getD vs j 0 ≡ max (getD us j 0) (getD m j 0)
+    here = let f : j ≡ 0 + j = omega arith in ap (λ (y : ℕ). getD vs y 0) f ∙ w .there j l
 
 -- monomials of which no two have a variable in common
 
@@ -143,11 +143,24 @@ pub single-none : (n s : ℕ) (cells : List ℕ) → Single n s cells 0
 unfolding Single
 single-none n s cells j h = refl
 
-pub single-more : (n s k : ℕ) (cells us vs m : List ℕ) → k < s → m ≡ at n k cells → Unshared vs m n → Joined n s cells k us vs → Single n s cells k → Single n s cells (k + 1)
+pub single-more : (n s k : ℕ) (cells us m : List ℕ) → k < s → m ≡ at n k cells → Unshared us m n → Joined n s cells k us → Single n s cells k → Single n s cells (k + 1)
 unfolding Joined Single
-single-more n s k cells us vs m h e a g f j l =
+single-more n s k cells us m h e a g f j l =
     rw (add-one k)
     (omega (arith, a j l, cell-of n s k cells m h e j l, g j l, f j l, greatest-take (column (listed n s cells) j) k, degree-take (column (listed n s cells) j) k))
+
+-- the first monomial, copied to zeros
+pub joined-first : (n s : ℕ) (cells us vs m : List ℕ) → 0 < s → m ≡ at n 0 cells → ((j : ℕ) → getD us j 0 ≡ 0) → Wrote us (λ j. getD m j 0) 0 n vs → Joined n s cells 1 vs × Single n s cells 1
+joined-first n s cells us vs m h e z w = (
+  joined-more n s 0 cells us vs m h e (record { len = w .len; there = λ j l. w .there j l ∙ over j; other = w .other }) none,
+  single-more n s 0 cells us m h e (λ j l. omega (arith, z j)) none (single-none n s cells),
+)
+  where
+    none : Joined n s cells 0 us
+    none = joined-none n s cells us z
+
+    over : (j : ℕ) → getD m j 0 ≡ max (getD us j 0) (getD m j 0)
+    over j = omega (arith, z j)
 
 whole : (n s : ℕ) (cells : List ℕ) (v : ℕ) → take s (column (listed n s cells) v) ≡ column (listed n s cells) v
 whole n s cells v = take-all s (column (listed n s cells) v) (omega (arith, column-count (listed n s cells) v, listed-count n s cells))
@@ -191,13 +204,13 @@ module _ {n : ℕ} {L : List (List ℕ)} {us : List ℕ} (g : Greatest n L us) w
       go zero h = refl
       go (suc k) h = ap₂ _+_ (one k (omega arith)) (go k (omega arith))
 
--- the monomials of a list, joined with zeros
-pub joined-zeros : (n s : ℕ) (cells us vs : List ℕ) → length us ≡ n → ((j : ℕ) → getD us j 0 ≡ 0) → (length vs ≡ length us) × Joined (length us) s cells s us vs → Greatest n (both n s cells 0 cells) vs
+-- the monomials of a list, all joined
+pub joined-all : (n s : ℕ) (cells us vs : List ℕ) → length us ≡ n → (length vs ≡ length us) × Joined (length us) s cells s vs → Greatest n (both n s cells 0 cells) vs
 unfolding Joined
-joined-zeros n s cells us vs e z f =
+joined-all n s cells us vs e f =
     record {
       len = f .0 ∙ e;
-      each = λ v h. omega (arith, f .1 v (omega arith), z v, same v);
+      each = λ v h. omega (arith, f .1 v (omega arith), same v);
     }
   where
     same : (v : ℕ) → greatest (take s (column (listed (length us) s cells) v)) ≡ greatest (column (both n s cells 0 cells) v)
@@ -207,8 +220,8 @@ pub single-all : (n s : ℕ) (cells : List ℕ) → Single n s cells s → (v : 
 unfolding Single
 single-all n s cells f v h = rw (sym (alone n s cells v)) (f v h)
 
-pub joined-zero : (n s : ℕ) (cells us vs : List ℕ) → Joined n s cells s us vs → (i j : ℕ) → i < s → j < n → getD vs j 0 ≡ 0 → getD cells (i * n + j) 0 ≡ 0
+pub joined-zero : (n s : ℕ) (cells us : List ℕ) → Joined n s cells s us → (i j : ℕ) → i < s → j < n → getD us j 0 ≡ 0 → getD cells (i * n + j) 0 ≡ 0
 unfolding Joined
-joined-zero n s cells us vs f i j h l z =
+joined-zero n s cells us f i j h l z =
     sym (column-listed n s cells j i l h)
     ∙ omega (arith, greatest-most (column (listed n s cells) j) i, f j l, ap greatest (whole n s cells j))

@@ -227,9 +227,9 @@ narrowed-copy n s cells xs ys l r w =
         let f : j ≡ 0 + j = omega arith in
         ap (λ (k : ℕ). getD ys k 0) f ∙ w .there j (omega arith)
 
-pub narrowed-kept : (n s : ℕ) (zs us cells xs : List ℕ) (w : ℕ) (ys ps : List ℕ) → length us ≡ n → length cells ≡ s * n → s * n ≤ length xs → Joined n s cells s zs us → Placing us (length us) ps w
+pub narrowed-kept : (n s : ℕ) (us cells xs : List ℕ) (w : ℕ) (ys ps : List ℕ) → length us ≡ n → length cells ≡ s * n → s * n ≤ length xs → Joined n s cells s us → Placing us (length us) ps w
     → Kept n w ps cells xs s ys → Narrowed n s cells xs w ys
-narrowed-kept n s zs us cells xs w ys ps e l r u p k =
+narrowed-kept n s us cells xs w ys ps e l r u p k =
     record {
       len = k .len;
       less = omega (arith, p .most);
@@ -264,7 +264,7 @@ narrowed-kept n s zs us cells xs w ys ps e l r u p k =
     width (suc i) h m (inr q) = width i (omega arith) m q
 
     cell : (i j : ℕ) → i < s → getD us j 0 ≡ 0 → (b : Bool) → ltb j n ≡ b → getD (at n i cells) j 0 ≡ 0
-    cell i j h z true q = let g : j < n = ltb-true j n q in at-cell n i j cells g ∙ joined-zero n s cells zs us u i j h g z
+    cell i j h z true q = let g : j < n = ltb-true j n q in at-cell n i j cells g ∙ joined-zero n s cells us u i j h g z
     cell i j h z false q = List·getD-eq-default (at n i cells) 0 (omega (arith, row i h, ltb-false j n q))
 
     marked : (i : ℕ) → i ≤ s → (m : List ℕ) → In m (rows n i cells) → Marks us m

@@ -1,8 +1,9 @@
 // The greatest of exponents: of all in a list of cells, or for each variable.
 use crate::minimal::less;
+use crate::rows::put_cells;
 use crate::rows::row;
 ghost use mathlib.Core.Path.{_≡_};
-ghost use Prim.Native.Nat.{_*_, _<_, _≤_, max};
+ghost use Prim.Native.Nat.{ℕ, _*_, _<_, _≤_, max};
 ghost use lib.ListN.{length, getD};
 ghost use Rattle.laws.proofs.Asked.{greatest};
 ghost use Rattle.laws.proofs.Column.{above};
@@ -65,16 +66,28 @@ fn join(us: &mut [u16], m: &[u16]) -> u16
     common
 }
 
-// The greatest exponent of each variable in the s monomials, or what us has, where that is greater. The answer is 0 where no variable is in two
-// of them or in one and us.
+// The first of the s monomials in us, zeros before; how many are in it, 0 or 1.
+fn put_first(us: &mut [u16], s: usize, cells: &[u16]) -> usize
+    requires { ⌜ (s * length (now us) ≤ length (now cells)) × ((v : ℕ) → getD (now us) v 0 ≡ 0) ⌝ }
+    ensures { λ r. ⌜ (length (now (us .exit)) ≡ length (now (us .entry))) × (r ≤ s) × Joined (length (now (us .entry))) s (now (cells .entry)) r (now (us .exit)) × Single (length (now (us .entry))) s (now (cells .entry)) r ⌝ }
+{
+    if s == 0 {
+        return 0;
+    }
+    let n = us.len();
+    put_cells(us, 0, row(cells, n, 0));
+    1
+}
+
+// The greatest exponent of each variable in the s monomials, in us, zeros before. The answer is 0 where no variable is in two of them.
 pub(crate) fn join_all(us: &mut [u16], s: usize, cells: &[u16]) -> u16
-    requires { ⌜ s * length (now us) ≤ length (now cells) ⌝ }
-    ensures { λ _. ⌜ (length (now (us .exit)) ≡ length (now (us .entry))) × Joined (length (now (us .entry))) s (now (cells .entry)) s (now (us .entry)) (now (us .exit)) ⌝ }
+    requires { ⌜ (s * length (now us) ≤ length (now cells)) × ((v : ℕ) → getD (now us) v 0 ≡ 0) ⌝ }
+    ensures { λ _. ⌜ (length (now (us .exit)) ≡ length (now (us .entry))) × Joined (length (now (us .entry))) s (now (cells .entry)) s (now (us .exit)) ⌝ }
     ensures { λ r. ⌜ (r ≡ 0 → Single (length (now (us .entry))) s (now (cells .entry)) s) ⌝ }
 {
     let n = us.len();
     let mut common: u16 = 0;
-    let mut i: usize = 0;
+    let mut i = put_first(us, s, cells);
     while i < s {
         common = greater(common, join(us, row(cells, n, i)));
         i += 1;

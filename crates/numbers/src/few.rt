@@ -150,15 +150,7 @@ fn add_factor(out: &mut [i64], shift: usize, d: usize, seed: &[i64], neg: bool)
 }
 
 // t^shift times the seed times the numerator of a and b by their degrees, 1 - t^a - t^b (1 - t^ab), added to out or taken off it.
-fn add_pair(
-    out: &mut [i64],
-    shift: usize,
-    a: usize,
-    b: usize,
-    ab: usize,
-    seed: &[i64],
-    neg: bool,
-)
+fn add_pair(out: &mut [i64], shift: usize, a: usize, b: usize, ab: usize, seed: &[i64], neg: bool)
     requires { ⌜ (shift < 2305843009213693952 + 4294901760) × (a ≤ 4294901760) × (b ≤ 4294901760) × (ab ≤ 4294901760) ⌝ }
     ensures { λ _. ⌜ AddedTo (shifted shift (pair (now (seed .entry)) a b ab neg)) (now (out .entry)) (now (out .exit)) ⌝ }
 {

@@ -47,7 +47,7 @@ fn put_used(
     us: &mut [u16],
     ps: &mut [usize],
 ) -> usize
-    requires { ⌜ (length (now cells) ≡ s * n) × (s * n ≤ length (now room)) × (length (now us) ≡ n) × (length (now ps) ≡ n) ⌝ }
+    requires { ⌜ (length (now cells) ≡ s * n) × (s * n ≤ length (now room)) × (length (now us) ≡ n) × (length (now ps) ≡ n) × ((v : ℕ) → getD (now us) v 0 ≡ 0) ⌝ }
     ensures { λ r. ⌜ Narrowed n s (now (cells .entry)) (now (room .entry)) r (now (room .exit)) ⌝ }
 {
     join_all(us, s, cells);

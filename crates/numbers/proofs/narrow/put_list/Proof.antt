@@ -1,6 +1,7 @@
 use borrow.Author.Needs.{needs}
 use lib.Seq.{length-take-le}
 use mathlib.Core.Path.{sym}
+use Rattle.laws.proofs.Lists.{replicate-constant, take-constant}
 use Rattle.laws.proofs.Narrow.{narrowed-copy}
 use Rattle.numbers.proofs.narrow.put_list.Statement.{statement}
 use Rattle.numbers.proofs.narrow.put_list.Tie as tie
@@ -23,6 +24,6 @@ put-list-spec =
     -- slice-aggregate-put-used-2
     (λ c. let p6 = c .before .before .before .before .before .before in sym (length-take-le _ _ (p6 .pre .2)))
     -- put-used-requires
-    (λ c κs. let p6 = c .before .before .before .before .before .before in (p6 .pre .0, p6 .pre .1, length-take-le _ _ (p6 .pre .2), length-take-le _ _ (p6 .pre .2)))
+    (λ c κs. let p6 = c .before .before .before .before .before .before in (p6 .pre .0, p6 .pre .1, length-take-le _ _ (p6 .pre .2), length-take-le _ _ (p6 .pre .2), take-constant 0 _ (p6 .args .n) (replicate-constant 0 255)))
     (λ c. search needs)
     (λ c. search needs))

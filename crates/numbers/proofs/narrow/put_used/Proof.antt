@@ -26,7 +26,7 @@ put-used-spec =
     Inv-loop
     μ-loop
     -- join-all-requires
-    (λ c κs. let p5 = c .before .before .before .before .before in le-of-eq (ap (λ (k : ℕ). p5 .args .s * k) (p5 .pre .2) ∙ sym (p5 .pre .0)))
+    (λ c κs. let p5 = c .before .before .before .before .before in (le-of-eq (ap (λ (k : ℕ). p5 .args .s * k) (p5 .pre .2) ∙ sym (p5 .pre .0)), p5 .pre .4))
     -- places-requires
     (λ c κs. let p4 = c .before .before .before .before in let p10 = p4 .before .before .before .before .before .before in le-of-eq (p4 .join-all .ensures .0 .0 ∙ p10 .pre .2 ∙ sym (p10 .pre .3)))
     -- loop-holds
@@ -50,4 +50,4 @@ put-used-spec =
     -- same-length-3
     (λ c. let p4 = c .before .before .before .before in p4 .places .ensures .0)
     -- returns
-    (λ c. let p1 = c .before in let p4 = p1 .before .before .before in let p9 = p4 .before .before .before .before .before in let p15 = p9 .before .before .before .before .before .before in narrowed-kept (p15 .args .n) (p15 .args .s) (p15 .args .us .now) (p9 .join-all .last .0) (p15 .args .cells .now) (p15 .args .room .now) (p4 .places .result) (p1 .loop .room) (p4 .places .last .1 .0) (p9 .join-all .ensures .0 .0 ∙ p15 .pre .2) (p15 .pre .0) (p15 .pre .1) (subst (λ (k : ℕ). Joined k (p15 .args .s) (p15 .args .cells .now) (p15 .args .s) (p15 .args .us .now) (p9 .join-all .last .0)) (p15 .pre .2) (p9 .join-all .ensures .0 .1)) (p4 .places .ensures .1) (subst (λ (k : ℕ). Kept (p15 .args .n) (p4 .places .result) (p4 .places .last .1 .0) (p15 .args .cells .now) (p15 .args .room .now) k (p1 .loop .room)) (loop-ended (p1 .loop .i) (p15 .args .s) (p1 .loop .inv .0) (c .loop-test .left)) (p1 .loop .inv .1))))
+    (λ c. let p1 = c .before in let p4 = p1 .before .before .before in let p9 = p4 .before .before .before .before .before in let p15 = p9 .before .before .before .before .before .before in narrowed-kept (p15 .args .n) (p15 .args .s) (p9 .join-all .last .0) (p15 .args .cells .now) (p15 .args .room .now) (p4 .places .result) (p1 .loop .room) (p4 .places .last .1 .0) (p9 .join-all .ensures .0 .0 ∙ p15 .pre .2) (p15 .pre .0) (p15 .pre .1) (subst (λ (k : ℕ). Joined k (p15 .args .s) (p15 .args .cells .now) (p15 .args .s) (p9 .join-all .last .0)) (p15 .pre .2) (p9 .join-all .ensures .0 .1)) (p4 .places .ensures .1) (subst (λ (k : ℕ). Kept (p15 .args .n) (p4 .places .result) (p4 .places .last .1 .0) (p15 .args .cells .now) (p15 .args .room .now) k (p1 .loop .room)) (loop-ended (p1 .loop .i) (p15 .args .s) (p1 .loop .inv .0) (c .loop-test .left)) (p1 .loop .inv .1))))
