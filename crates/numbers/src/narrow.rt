@@ -1,5 +1,5 @@
-// The list written to the room. Of more than 32 variables those that no monomial has are left out: the numerator is the same, and every
-// pass over a monomial is as short as it can be.
+// The list written to the room. Of more than 32 variables and three monomials the variables that no monomial has are left out: the numerator is
+// the same, and every pass over a monomial is as short as it can be. Three and fewer take one pass, which is shorter than leaving out.
 use crate::columns::join_all;
 use crate::rows::put_cells;
 use crate::rows::row;
