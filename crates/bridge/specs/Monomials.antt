@@ -63,19 +63,19 @@ mask_told (MaskOutcome.Refused r) = Told.Refused r
 abbrev pub of_mask : MaskAnswer → Told
 of_mask a = mask_told a.outcome
 
-test_degree : values_in (of_number (degree_answer (2 ∷ 3 ∷ []))) (9 ∷ 9 ∷ 9 ∷ 9 ∷ []) ≡ 5 ∷ 0 ∷ 0 ∷ 0 ∷ []
+test_degree : values_in (of_number (degree_answer 255 (2 ∷ 3 ∷ []))) (9 ∷ 9 ∷ 9 ∷ 9 ∷ []) ≡ 5 ∷ 0 ∷ 0 ∷ 0 ∷ []
 test_degree = refl
 
 -- a variable that is not there: number 4, and nothing is written
-test_exponent : number_in (of_number (exponent_answer (2 ∷ 3 ∷ []) 2)) ≡ 4
+test_exponent : number_in (of_number (exponent_answer 255 (2 ∷ 3 ∷ []) 2)) ≡ 4
 test_exponent = refl
 
-test_exponent_held : values_in (of_number (exponent_answer (2 ∷ 3 ∷ []) 2)) (9 ∷ 8 ∷ 7 ∷ 6 ∷ []) ≡ 9 ∷ 8 ∷ 7 ∷ 6 ∷ []
+test_exponent_held : values_in (of_number (exponent_answer 255 (2 ∷ 3 ∷ []) 2)) (9 ∷ 8 ∷ 7 ∷ 6 ∷ []) ≡ 9 ∷ 8 ∷ 7 ∷ 6 ∷ []
 test_exponent_held = refl
 
 -- width 64, greatest exponent 4: exponent 3 in variable 32 sets bit 64 only
-test_mask : values_in (of_mask (mask_answer 64 4 (power 64 32 3))) (9 ∷ 8 ∷ 7 ∷ 6 ∷ []) ≡ 0 ∷ 1 ∷ 0 ∷ 0 ∷ []
+test_mask : values_in (of_mask (mask_answer 255 64 4 (power 64 32 3))) (9 ∷ 8 ∷ 7 ∷ 6 ∷ []) ≡ 0 ∷ 1 ∷ 0 ∷ 0 ∷ []
 test_mask = refl
 
-test_degrevlex : values_in (of_order (degrevlex_answer (1 ∷ 1 ∷ []) (2 ∷ 0 ∷ []))) (9 ∷ 8 ∷ 7 ∷ 6 ∷ []) ≡ 0 ∷ 0 ∷ 0 ∷ 0 ∷ []
+test_degrevlex : values_in (of_order (degrevlex_answer 255 (1 ∷ 1 ∷ []) (2 ∷ 0 ∷ []))) (9 ∷ 8 ∷ 7 ∷ 6 ∷ []) ≡ 0 ∷ 0 ∷ 0 ∷ 0 ∷ []
 test_degrevlex = refl

@@ -57,9 +57,9 @@ test_none : values_in (of_degree (degree_of (pos 0 ∷ []))) (9 ∷ 8 ∷ 7 ∷ 
 test_none = refl
 
 -- coefficients [−2^63], n = 1, d = 0: −2^63
-test_least : values_in (of_signed (hilbert_answer 1 (negsuc (2 ^ 63 - 1) ∷ []) 0 (replicate 4 0))) (9 ∷ 8 ∷ 7 ∷ 6 ∷ []) ≡ 2 ^ 63 ∷ (2 ^ 64 - 1) ∷ 0 ∷ 0 ∷ []
+test_least : values_in (of_signed (hilbert_answer 255 65536 1 (negsuc (2 ^ 63 - 1) ∷ []) 0 (replicate 4 0))) (9 ∷ 8 ∷ 7 ∷ 6 ∷ []) ≡ 2 ^ 63 ∷ (2 ^ 64 - 1) ∷ 0 ∷ 0 ∷ []
 test_least = refl
 
 -- a room of 3 words at degree 0: number 9
-test_room : number_in (of_signed (hilbert_answer 1 (pos 1 ∷ []) 0 (replicate 3 0))) ≡ 9
+test_room : number_in (of_signed (hilbert_answer 255 65536 1 (pos 1 ∷ []) 0 (replicate 3 0))) ≡ 9
 test_room = refl

@@ -1,14 +1,12 @@
--- The answers of the calls on ideal records, as the bridge tells them.
+-- The answers of the calls on ideal records, as the bridge tells them. P is the size of the greatest part, C the greatest count.
 --   of_size a      == the size
 --   of_check a x   == x where nothing is wrong
 --   of_copy a      == the width, the count
---   max_part       == the bytes of the longest part
---   place_told     == 14 where the output is shorter than that, before all else; then the place's refusal, or the length of the part
+--   place_told     == 14 where the output is shorter than P, before all else; then the place's refusal, or the length of the part
 --   place_bytes    == the output after that call: the part, then what stood there
 -- Assumes nothing.
-use Rattle.std.specs.Prelude.{◌≡◌, refl, cond, List, [], ◌∷◌, ◌++◌, ℕ, ◌+◌, ◌-◌, ◌*◌, ltb, length, drop, replicate}
+use Rattle.std.specs.Prelude.{◌≡◌, refl, cond, List, [], ◌∷◌, ◌++◌, ℕ, ltb, length, drop, replicate}
 use Rattle.laws.specs.Record.{ideal_record}
-use Rattle.monomials.specs.Limits.{max_width}
 use Rattle.monomials.specs.declared.refusal.Refusal.TheVariants.{Output}
 use Rattle.records.specs.Ideal.{place_answer, place_part}
 use Rattle.records.specs.declared.ideal.SizeOutcome.{SizeOutcome}
@@ -41,22 +39,19 @@ copy_told (CopyOutcome.Refused r) = Told.Refused r
 abbrev pub of_copy : CopyAnswer → Told
 of_copy a = copy_told a.outcome
 
-abbrev pub max_part : ℕ
-max_part = 2 * max_width
+abbrev pub place_told : ℕ → ℕ → List ℕ → ℕ → List ℕ → Told
+place_told P C rec k out = cond (ltb (length out) P) (Told.Refused Output) (of_check (place_answer C rec k) (length (place_part C rec k)))
 
-abbrev pub place_told : List ℕ → ℕ → List ℕ → Told
-place_told rec k out = cond (ltb (length out) max_part) (Told.Refused Output) (of_check (place_answer rec k) (length (place_part rec k)))
-
-abbrev pub place_bytes : List ℕ → ℕ → List ℕ → List ℕ
-place_bytes rec k out = cond (ltb (length out) max_part) out (place_part rec k ++ drop (length (place_part rec k)) out)
+abbrev pub place_bytes : ℕ → ℕ → List ℕ → ℕ → List ℕ → List ℕ
+place_bytes P C rec k out = cond (ltb (length out) P) out (place_part C rec k ++ drop (length (place_part C rec k)) out)
 
 -- the record of (2,0)(1,1)(0,2): at place 1 stands (1,1)
-test_place : place_bytes (ideal_record 2 ((2 ∷ 0 ∷ []) ∷ (1 ∷ 1 ∷ []) ∷ (0 ∷ 2 ∷ []) ∷ [])) 1 (replicate (max_part + 1) 9) ≡ 0 ∷ 1 ∷ 0 ∷ 1 ∷ replicate (max_part - 3) 9
+test_place : place_bytes 4 60 (ideal_record 2 ((2 ∷ 0 ∷ []) ∷ (1 ∷ 1 ∷ []) ∷ (0 ∷ 2 ∷ []) ∷ [])) 1 (replicate 5 9) ≡ 0 ∷ 1 ∷ 0 ∷ 1 ∷ 9 ∷ []
 test_place = refl
 
-test_place_told : values_in (place_told (ideal_record 2 ((2 ∷ 0 ∷ []) ∷ (1 ∷ 1 ∷ []) ∷ (0 ∷ 2 ∷ []) ∷ [])) 1 (replicate max_part 9)) (9 ∷ 8 ∷ 7 ∷ 6 ∷ []) ≡ 4 ∷ 0 ∷ 0 ∷ 0 ∷ []
+test_place_told : values_in (place_told 4 60 (ideal_record 2 ((2 ∷ 0 ∷ []) ∷ (1 ∷ 1 ∷ []) ∷ (0 ∷ 2 ∷ []) ∷ [])) 1 (replicate 5 9)) (9 ∷ 8 ∷ 7 ∷ 6 ∷ []) ≡ 4 ∷ 0 ∷ 0 ∷ 0 ∷ []
 test_place_told = refl
 
 -- a shorter output: 14, whatever the record
-test_place_short : number_in (place_told [] 1 (replicate (max_part - 1) 9)) ≡ 14
+test_place_short : number_in (place_told 4 60 [] 1 (replicate 3 9)) ≡ 14
 test_place_short = refl

@@ -38,7 +38,7 @@ pub extern "C" fn pt_coeff(coeffs: &[i64], d: u64, values: &mut [u64; 4]) -> u8
     ensures values_after { values.new ≡ values_in (of_word (of_z w64 (coefficient coeffs.now d))) values.old }
 {
     tell(
-        of_word(words::signed::to_bits(numbers::coefficients::coeff(coeffs, d as usize))),
+        of_word(numbers::signed::to_bits(numbers::coefficients::coeff(coeffs, d as usize))),
         values,
     )
 }

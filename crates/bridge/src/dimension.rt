@@ -5,7 +5,9 @@ ghost use Rattle.bridge.specs.Told.{number_in, values_in};
 ghost use Rattle.bridge.specs.Numbers.{of_dimension};
 
 use crate::told::{Told, tell};
+use monomials::refusal::{MAX_COUNT, MAX_WIDTH};
 use numbers::dimension::{DimensionAnswer, DimensionOutcome};
+use numbers::hf_at::MAX_DEGREE;
 
 // The low word and the high word of the dimension of the s monomials in `cells`, and the top degree.
 #[unsafe(no_mangle)]
@@ -19,12 +21,12 @@ pub extern "C" fn pt_dimension(
     sums: &mut [u64],
     values: &mut [u64; 4],
 ) -> u8
-    ensures value { result ≡ number_in (of_dimension (dimension_answer n s cells.now room.old first.old second.old sums.old)) }
-    ensures room_after { room.new ≡ dimension_room n s cells.now room.old first.old second.old sums.old }
-    ensures first_after { first.new ≡ dimension_first n s cells.now room.old first.old second.old sums.old }
-    ensures second_after { second.new ≡ dimension_second n s cells.now room.old first.old second.old sums.old }
-    ensures sums_after { sums.new ≡ dimension_sums n s cells.now room.old first.old second.old sums.old }
-    ensures values_after { values.new ≡ values_in (of_dimension (dimension_answer n s cells.now room.old first.old second.old sums.old)) values.old }
+    ensures value { result ≡ number_in (of_dimension (dimension_answer MAX_WIDTH MAX_COUNT MAX_DEGREE n s cells.now room.old first.old second.old sums.old)) }
+    ensures room_after { room.new ≡ dimension_room MAX_WIDTH MAX_COUNT MAX_DEGREE n s cells.now room.old first.old second.old sums.old }
+    ensures first_after { first.new ≡ dimension_first MAX_WIDTH MAX_COUNT MAX_DEGREE n s cells.now room.old first.old second.old sums.old }
+    ensures second_after { second.new ≡ dimension_second MAX_WIDTH MAX_COUNT MAX_DEGREE n s cells.now room.old first.old second.old sums.old }
+    ensures sums_after { sums.new ≡ dimension_sums MAX_WIDTH MAX_COUNT MAX_DEGREE n s cells.now room.old first.old second.old sums.old }
+    ensures values_after { values.new ≡ values_in (of_dimension (dimension_answer MAX_WIDTH MAX_COUNT MAX_DEGREE n s cells.now room.old first.old second.old sums.old)) values.old }
 {
     tell(
         of_dimension(numbers::dimension::quotient_dimension(

@@ -5,7 +5,8 @@ ghost use Rattle.bridge.specs.Told.{number_in, values_in};
 ghost use Rattle.bridge.specs.Numbers.{of_signed};
 
 use crate::told::{Told, tell};
-use numbers::hf_at::{SignedAnswer, SignedOutcome};
+use monomials::refusal::MAX_WIDTH;
+use numbers::hf_at::{MAX_DEGREE, SignedAnswer, SignedOutcome};
 
 // The low word and the high word of the value at d, in two's complement.
 #[unsafe(no_mangle)]
@@ -16,9 +17,9 @@ pub extern "C" fn pt_hf_at(
     sums: &mut [u64],
     values: &mut [u64; 4],
 ) -> u8
-    ensures value { result ≡ number_in (of_signed (hilbert_answer n coeffs.now d sums.old)) }
-    ensures sums_after { sums.new ≡ hilbert_room n d sums.old }
-    ensures values_after { values.new ≡ values_in (of_signed (hilbert_answer n coeffs.now d sums.old)) values.old }
+    ensures value { result ≡ number_in (of_signed (hilbert_answer MAX_WIDTH MAX_DEGREE n coeffs.now d sums.old)) }
+    ensures sums_after { sums.new ≡ hilbert_room MAX_WIDTH MAX_DEGREE n d sums.old }
+    ensures values_after { values.new ≡ values_in (of_signed (hilbert_answer MAX_WIDTH MAX_DEGREE n coeffs.now d sums.old)) values.old }
 {
     tell(
         of_signed(numbers::hf_at::hf_at(n as usize, coeffs, d as usize, sums)),

@@ -5,7 +5,7 @@ ghost use Rattle.bridge.specs.Told.{number_in, values_in};
 ghost use Rattle.bridge.specs.Records.{of_size, of_check, of_copy, place_told, place_bytes};
 
 use crate::told::{Told, number_in, tell};
-use monomials::refusal::{MAX_WIDTH, Refusal};
+use monomials::refusal::{MAX_COUNT, MAX_WIDTH, Refusal};
 use records::ideal::{CheckAnswer, CheckOutcome, CopyAnswer, CopyOutcome, SizeAnswer, SizeOutcome};
 
 // The exponent bytes of a monomial of the greatest width.
@@ -20,9 +20,9 @@ pub extern "C" fn pt_write_record(
     out: &mut [u8],
     values: &mut [u64; 4],
 ) -> u8
-    ensures value { result ≡ number_in (of_size (write_answer n s cells.now out.old)) }
-    ensures out_after { out.new ≡ write_bytes n s cells.now out.old }
-    ensures values_after { values.new ≡ values_in (of_size (write_answer n s cells.now out.old)) values.old }
+    ensures value { result ≡ number_in (of_size (write_answer MAX_WIDTH MAX_COUNT n s cells.now out.old)) }
+    ensures out_after { out.new ≡ write_bytes MAX_WIDTH MAX_COUNT n s cells.now out.old }
+    ensures values_after { values.new ≡ values_in (of_size (write_answer MAX_WIDTH MAX_COUNT n s cells.now out.old)) values.old }
 {
     tell(
         of_size(records::ideal::write_record(n as usize, s as usize, cells, out)),
@@ -33,7 +33,7 @@ pub extern "C" fn pt_write_record(
 // Whether the bytes are a record that has a monomial at place k.
 #[unsafe(no_mangle)]
 pub extern "C" fn pt_check_place(rec: &[u8], k: u64) -> u8
-    ensures { result ≡ number_in (of_check (place_answer rec.now k) 0) }
+    ensures { result ≡ number_in (of_check (place_answer MAX_COUNT rec.now k) 0) }
 {
     number_in(of_check(records::ideal::check_place(rec, k as usize), 0))
 }
@@ -41,9 +41,9 @@ pub extern "C" fn pt_check_place(rec: &[u8], k: u64) -> u8
 // The length of the part that holds the monomial at place k, whose bytes stand at the front of `out`.
 #[unsafe(no_mangle)]
 pub extern "C" fn pt_place(rec: &[u8], k: u64, out: &mut [u8], values: &mut [u64; 4]) -> u8
-    ensures value { result ≡ number_in (place_told rec.now k out.old) }
-    ensures out_after { out.new ≡ place_bytes rec.now k out.old }
-    ensures values_after { values.new ≡ values_in (place_told rec.now k out.old) values.old }
+    ensures value { result ≡ number_in (place_told MAX_PART MAX_COUNT rec.now k out.old) }
+    ensures out_after { out.new ≡ place_bytes MAX_PART MAX_COUNT rec.now k out.old }
+    ensures values_after { values.new ≡ values_in (place_told MAX_PART MAX_COUNT rec.now k out.old) values.old }
 {
     if out.len() < MAX_PART {
         return tell(Told::Refused(Refusal::Output), values);
@@ -59,9 +59,9 @@ pub extern "C" fn pt_place(rec: &[u8], k: u64, out: &mut [u8], values: &mut [u64
 // The width and the count of the record, whose exponents stand in the first cells.
 #[unsafe(no_mangle)]
 pub extern "C" fn pt_copy_record(rec: &[u8], cells: &mut [u16], values: &mut [u64; 4]) -> u8
-    ensures value { result ≡ number_in (of_copy (copy_answer rec.now cells.old)) }
-    ensures cells_after { cells.new ≡ copy_cells rec.now cells.old }
-    ensures values_after { values.new ≡ values_in (of_copy (copy_answer rec.now cells.old)) values.old }
+    ensures value { result ≡ number_in (of_copy (copy_answer MAX_COUNT rec.now cells.old)) }
+    ensures cells_after { cells.new ≡ copy_cells MAX_COUNT rec.now cells.old }
+    ensures values_after { values.new ≡ values_in (of_copy (copy_answer MAX_COUNT rec.now cells.old)) values.old }
 {
     tell(of_copy(records::ideal::copy_record(rec, cells)), values)
 }

@@ -6,12 +6,13 @@ ghost use Rattle.bridge.specs.Monomials.{of_mask};
 
 use crate::told::{Told, tell};
 use monomials::divmask::{MaskAnswer, MaskOutcome};
+use monomials::refusal::MAX_WIDTH;
 
 // The low word and the high word of the mask.
 #[unsafe(no_mangle)]
 pub extern "C" fn pt_mask(n: u64, max_deg: u16, exps: &[u16], values: &mut [u64; 4]) -> u8
-    ensures value { result ≡ number_in (of_mask (mask_answer n max_deg exps.now)) }
-    ensures values_after { values.new ≡ values_in (of_mask (mask_answer n max_deg exps.now)) values.old }
+    ensures value { result ≡ number_in (of_mask (mask_answer MAX_WIDTH n max_deg exps.now)) }
+    ensures values_after { values.new ≡ values_in (of_mask (mask_answer MAX_WIDTH n max_deg exps.now)) values.old }
 {
     tell(
         of_mask(monomials::divmask::mask(n as usize, max_deg, exps)),

@@ -9,12 +9,13 @@ use monomials::monomial::{
     NumberAnswer, NumberOutcome, Order, OrderAnswer, OrderOutcome, TestAnswer, TestOutcome,
     WriteAnswer, WriteOutcome,
 };
+use monomials::refusal::{MAX_EXPONENT, MAX_WIDTH};
 
 // The degree of a.
 #[unsafe(no_mangle)]
 pub extern "C" fn pt_degree(a: &[u16], values: &mut [u64; 4]) -> u8
-    ensures value { result ≡ number_in (of_number (degree_answer a.now)) }
-    ensures values_after { values.new ≡ values_in (of_number (degree_answer a.now)) values.old }
+    ensures value { result ≡ number_in (of_number (degree_answer MAX_WIDTH a.now)) }
+    ensures values_after { values.new ≡ values_in (of_number (degree_answer MAX_WIDTH a.now)) values.old }
 {
     tell(of_number(monomials::monomial::total_degree(a)), values)
 }
@@ -22,8 +23,8 @@ pub extern "C" fn pt_degree(a: &[u16], values: &mut [u64; 4]) -> u8
 // The exponent of variable v in a.
 #[unsafe(no_mangle)]
 pub extern "C" fn pt_exponent(a: &[u16], v: u64, values: &mut [u64; 4]) -> u8
-    ensures value { result ≡ number_in (of_number (exponent_answer a.now v)) }
-    ensures values_after { values.new ≡ values_in (of_number (exponent_answer a.now v)) values.old }
+    ensures value { result ≡ number_in (of_number (exponent_answer MAX_WIDTH a.now v)) }
+    ensures values_after { values.new ≡ values_in (of_number (exponent_answer MAX_WIDTH a.now v)) values.old }
 {
     tell(
         of_number(monomials::monomial::exponent(a, v as usize)),
@@ -34,8 +35,8 @@ pub extern "C" fn pt_exponent(a: &[u16], v: u64, values: &mut [u64; 4]) -> u8
 // Variable v to the x, in n variables.
 #[unsafe(no_mangle)]
 pub extern "C" fn pt_power(n: u64, v: u64, x: u16, out: &mut [u16]) -> u8
-    ensures value { result ≡ number_in (of_write (power_answer n v out.old)) }
-    ensures out_after { out.new ≡ power_cells n v x out.old }
+    ensures value { result ≡ number_in (of_write (power_answer MAX_WIDTH n v out.old)) }
+    ensures out_after { out.new ≡ power_cells MAX_WIDTH n v x out.old }
 {
     number_in(of_write(monomials::monomial::power(n as usize, v as usize, x, out)))
 }
@@ -43,8 +44,8 @@ pub extern "C" fn pt_power(n: u64, v: u64, x: u16, out: &mut [u16]) -> u8
 // The product of a and b.
 #[unsafe(no_mangle)]
 pub extern "C" fn pt_product(a: &[u16], b: &[u16], out: &mut [u16]) -> u8
-    ensures value { result ≡ number_in (of_write (product_answer a.now b.now out.old)) }
-    ensures out_after { out.new ≡ product_cells a.now b.now out.old }
+    ensures value { result ≡ number_in (of_write (product_answer MAX_WIDTH MAX_EXPONENT a.now b.now out.old)) }
+    ensures out_after { out.new ≡ product_cells MAX_WIDTH MAX_EXPONENT a.now b.now out.old }
 {
     number_in(of_write(monomials::monomial::product(a, b, out)))
 }
@@ -52,8 +53,8 @@ pub extern "C" fn pt_product(a: &[u16], b: &[u16], out: &mut [u16]) -> u8
 // a divided by b.
 #[unsafe(no_mangle)]
 pub extern "C" fn pt_quotient(a: &[u16], b: &[u16], out: &mut [u16]) -> u8
-    ensures value { result ≡ number_in (of_write (quotient_answer a.now b.now out.old)) }
-    ensures out_after { out.new ≡ quotient_cells a.now b.now out.old }
+    ensures value { result ≡ number_in (of_write (quotient_answer MAX_WIDTH a.now b.now out.old)) }
+    ensures out_after { out.new ≡ quotient_cells MAX_WIDTH a.now b.now out.old }
 {
     number_in(of_write(monomials::monomial::quotient(a, b, out)))
 }
@@ -61,8 +62,8 @@ pub extern "C" fn pt_quotient(a: &[u16], b: &[u16], out: &mut [u16]) -> u8
 // The lcm of a and b.
 #[unsafe(no_mangle)]
 pub extern "C" fn pt_lcm(a: &[u16], b: &[u16], out: &mut [u16]) -> u8
-    ensures value { result ≡ number_in (of_write (lcm_answer a.now b.now out.old)) }
-    ensures out_after { out.new ≡ lcm_cells a.now b.now out.old }
+    ensures value { result ≡ number_in (of_write (lcm_answer MAX_WIDTH a.now b.now out.old)) }
+    ensures out_after { out.new ≡ lcm_cells MAX_WIDTH a.now b.now out.old }
 {
     number_in(of_write(monomials::monomial::lcm(a, b, out)))
 }
@@ -70,8 +71,8 @@ pub extern "C" fn pt_lcm(a: &[u16], b: &[u16], out: &mut [u16]) -> u8
 // The gcd of a and b.
 #[unsafe(no_mangle)]
 pub extern "C" fn pt_gcd(a: &[u16], b: &[u16], out: &mut [u16]) -> u8
-    ensures value { result ≡ number_in (of_write (gcd_answer a.now b.now out.old)) }
-    ensures out_after { out.new ≡ gcd_cells a.now b.now out.old }
+    ensures value { result ≡ number_in (of_write (gcd_answer MAX_WIDTH a.now b.now out.old)) }
+    ensures out_after { out.new ≡ gcd_cells MAX_WIDTH a.now b.now out.old }
 {
     number_in(of_write(monomials::monomial::gcd(a, b, out)))
 }
@@ -79,8 +80,8 @@ pub extern "C" fn pt_gcd(a: &[u16], b: &[u16], out: &mut [u16]) -> u8
 // 1 where a divides b, else 0.
 #[unsafe(no_mangle)]
 pub extern "C" fn pt_divides(a: &[u16], b: &[u16], values: &mut [u64; 4]) -> u8
-    ensures value { result ≡ number_in (of_test (divides_answer a.now b.now)) }
-    ensures values_after { values.new ≡ values_in (of_test (divides_answer a.now b.now)) values.old }
+    ensures value { result ≡ number_in (of_test (divides_answer MAX_WIDTH a.now b.now)) }
+    ensures values_after { values.new ≡ values_in (of_test (divides_answer MAX_WIDTH a.now b.now)) values.old }
 {
     tell(of_test(monomials::monomial::divides(a, b)), values)
 }
@@ -88,8 +89,8 @@ pub extern "C" fn pt_divides(a: &[u16], b: &[u16], values: &mut [u64; 4]) -> u8
 // 1 where no variable stands in both, else 0.
 #[unsafe(no_mangle)]
 pub extern "C" fn pt_coprime(a: &[u16], b: &[u16], values: &mut [u64; 4]) -> u8
-    ensures value { result ≡ number_in (of_test (coprime_answer a.now b.now)) }
-    ensures values_after { values.new ≡ values_in (of_test (coprime_answer a.now b.now)) values.old }
+    ensures value { result ≡ number_in (of_test (coprime_answer MAX_WIDTH a.now b.now)) }
+    ensures values_after { values.new ≡ values_in (of_test (coprime_answer MAX_WIDTH a.now b.now)) values.old }
 {
     tell(of_test(monomials::monomial::is_coprime(a, b)), values)
 }
@@ -97,8 +98,8 @@ pub extern "C" fn pt_coprime(a: &[u16], b: &[u16], values: &mut [u64; 4]) -> u8
 // a against b by Lex: 0 less, 1 equal, 2 greater.
 #[unsafe(no_mangle)]
 pub extern "C" fn pt_lex(a: &[u16], b: &[u16], values: &mut [u64; 4]) -> u8
-    ensures value { result ≡ number_in (of_order (lex_answer a.now b.now)) }
-    ensures values_after { values.new ≡ values_in (of_order (lex_answer a.now b.now)) values.old }
+    ensures value { result ≡ number_in (of_order (lex_answer MAX_WIDTH a.now b.now)) }
+    ensures values_after { values.new ≡ values_in (of_order (lex_answer MAX_WIDTH a.now b.now)) values.old }
 {
     tell(of_order(monomials::monomial::cmp_lex(a, b)), values)
 }
@@ -106,8 +107,8 @@ pub extern "C" fn pt_lex(a: &[u16], b: &[u16], values: &mut [u64; 4]) -> u8
 // a against b by DegRevLex: 0 less, 1 equal, 2 greater.
 #[unsafe(no_mangle)]
 pub extern "C" fn pt_degrevlex(a: &[u16], b: &[u16], values: &mut [u64; 4]) -> u8
-    ensures value { result ≡ number_in (of_order (degrevlex_answer a.now b.now)) }
-    ensures values_after { values.new ≡ values_in (of_order (degrevlex_answer a.now b.now)) values.old }
+    ensures value { result ≡ number_in (of_order (degrevlex_answer MAX_WIDTH a.now b.now)) }
+    ensures values_after { values.new ≡ values_in (of_order (degrevlex_answer MAX_WIDTH a.now b.now)) values.old }
 {
     tell(of_order(monomials::monomial::cmp_degrevlex(a, b)), values)
 }

@@ -6,7 +6,9 @@ ghost use Rattle.bridge.specs.Told.{number_in, values_in};
 ghost use Rattle.bridge.specs.Numbers.{of_length};
 
 use crate::told::{Told, tell};
+use monomials::refusal::{MAX_COUNT, MAX_WIDTH};
 use numbers::numerator::{LengthAnswer, LengthOutcome};
+use numbers::update::MAX_COEFFICIENT;
 
 // The trimmed length of the numerator of the s monomials in `cells`, whose coefficients stand in `first`.
 #[unsafe(no_mangle)]
@@ -19,11 +21,11 @@ pub extern "C" fn pt_numerator(
     second: &mut [i64],
     values: &mut [u64; 4],
 ) -> u8
-    ensures value { result ≡ number_in (of_length (numerator_answer n s cells.now room.old first.old second.old)) }
-    ensures room_after { room.new ≡ numerator_room n s cells.now room.old first.old second.old }
-    ensures first_after { first.new ≡ numerator_first n s cells.now room.old first.old second.old }
-    ensures second_after { second.new ≡ numerator_second n s cells.now room.old first.old second.old }
-    ensures values_after { values.new ≡ values_in (of_length (numerator_answer n s cells.now room.old first.old second.old)) values.old }
+    ensures value { result ≡ number_in (of_length (numerator_answer MAX_WIDTH MAX_COUNT n s cells.now room.old first.old second.old)) }
+    ensures room_after { room.new ≡ numerator_room MAX_WIDTH MAX_COUNT n s cells.now room.old first.old second.old }
+    ensures first_after { first.new ≡ numerator_first MAX_WIDTH MAX_COUNT n s cells.now room.old first.old second.old }
+    ensures second_after { second.new ≡ numerator_second MAX_WIDTH MAX_COUNT n s cells.now room.old first.old second.old }
+    ensures values_after { values.new ≡ values_in (of_length (numerator_answer MAX_WIDTH MAX_COUNT n s cells.now room.old first.old second.old)) values.old }
 {
     tell(
         of_length(numbers::numerator::hilbert_numerator(
@@ -47,11 +49,11 @@ pub extern "C" fn pt_update(
     second: &mut [i64],
     values: &mut [u64; 4],
 ) -> u8
-    ensures value { result ≡ number_in (of_length (update_answer n g.now s0 existing.now s1 added.now room.old first.old second.old)) }
-    ensures room_after { room.new ≡ update_room n g.now s0 existing.now s1 added.now room.old first.old second.old }
-    ensures first_after { first.new ≡ update_first n g.now s0 existing.now s1 added.now room.old first.old second.old }
-    ensures second_after { second.new ≡ update_second n g.now s0 existing.now s1 added.now room.old first.old second.old }
-    ensures values_after { values.new ≡ values_in (of_length (update_answer n g.now s0 existing.now s1 added.now room.old first.old second.old)) values.old }
+    ensures value { result ≡ number_in (of_length (update_answer MAX_WIDTH MAX_COUNT MAX_COEFFICIENT n g.now s0 existing.now s1 added.now room.old first.old second.old)) }
+    ensures room_after { room.new ≡ update_room MAX_WIDTH MAX_COUNT MAX_COEFFICIENT n g.now s0 existing.now s1 added.now room.old first.old second.old }
+    ensures first_after { first.new ≡ update_first MAX_WIDTH MAX_COUNT MAX_COEFFICIENT n g.now s0 existing.now s1 added.now room.old first.old second.old }
+    ensures second_after { second.new ≡ update_second MAX_WIDTH MAX_COUNT MAX_COEFFICIENT n g.now s0 existing.now s1 added.now room.old first.old second.old }
+    ensures values_after { values.new ≡ values_in (of_length (update_answer MAX_WIDTH MAX_COUNT MAX_COEFFICIENT n g.now s0 existing.now s1 added.now room.old first.old second.old)) values.old }
 {
     tell(
         of_length(numbers::update::add_generators(

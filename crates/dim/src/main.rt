@@ -3,6 +3,8 @@
 ghost use Rattle.std.specs.Prelude.{◌≡◌};
 ghost use Rattle.dim.specs.Dim.{dim_bytes};
 
+use monomials::refusal::{MAX_COUNT, MAX_WIDTH};
+use numbers::hf_at::MAX_DEGREE;
 use records::answer::ANSWER_SIZE;
 use records::host::answer_record;
 use records::ideal::MAX_RECORD;
@@ -19,7 +21,7 @@ fn main() {
 
 // The answer record of the input.
 fn answer_to(input: &[u8]) -> [u8; ANSWER_SIZE]
-    ensures { result ≡ dim_bytes input.now }
+    ensures { result ≡ dim_bytes MAX_WIDTH MAX_COUNT MAX_DEGREE ANSWER_SIZE input.now }
 {
     let mut out = [0u8; ANSWER_SIZE];
     answer_record(input, &mut out);

@@ -1,6 +1,5 @@
 -- Laws of polynomials as functions of the degree and as lists of coefficients.
 --   shift_ext, shift_zero, shift_sub, shift_shift  t^e times a polynomial: by values, of 0, of a difference, twice
---   shift_neg, shift_add                           of a negative and of a sum, given by values
 --   shift_below, shift_at                          its coefficients below e and from e on
 --   coefficient_first                              a list made of the first n values has them as coefficients, and 0 from n on
 --   coefficient_padded                             zeros behind a list change no coefficient
@@ -8,20 +7,15 @@
 --   trimmed_unique                                 trimmed lists with the same coefficients are equal
 --   trim_unique, trim_same                         the trimmed list of a list, by its coefficients
 --   trim_end_zero, trim_end                        of a list that ends in 0, and of one that does not, the rest being the first n places
---   trim_length, trim_take, trim_pads              a trimmed list is the front of the list, and zeros behind it give the list back
---   first_is                                       a list by its first values
 use mathlib.Core.Path.{◌≡◌, refl, sym, ap, ap₂, ◌∙◌}
 use mathlib.Core.Logic.{◌≢◌}
-use mathlib.Core.Bool.{Bool, true, false}
 use mathlib.Core.List.{List, [], ◌∷◌, ◌++◌}
 use Prim.Native.Nat.{ℕ, zero, suc, ◌+◌, ◌-◌, ◌≤◌, ◌<◌}
 use native.Mathlib.Omega.{arith}
 use native.Mathlib.Nat.{zero-add, suc-add}
-use lib.Dec.{ltb}
-use lib.IntN.{ℤ, pos, negsuc, ◌-ℤ◌, pos-ne-negsuc, neg_ℤ, ◌+ℤ◌}
-use lib.ListN.{length, take, replicate, length-append, get_or-replicate, get_or-eq_default, length-replicate, get_or-append}
-use lib.Seq.{take-suc, length-take-le, ext_get_or, get_or-append-add, get_or-take}
-use borrow.Author.Tests.{ltb-true, ltb-false}
+use lib.IntN.{ℤ, pos, negsuc, ◌-ℤ◌, pos-ne-negsuc}
+use lib.ListN.{length, take, replicate, length-append}
+use lib.Seq.{take-suc, length-take-le}
 use Rattle.laws.specs.Coefficients.{coefficient, Trimmed, trim_cons, trim, first, one, shift}
 
 -- shifts
@@ -55,16 +49,6 @@ pub shift_at : (e k : ℕ) (f : ℕ → ℤ) → e ≤ k → shift e f k ≡ f (
 shift_at zero k f h = ap f (omega arith)
 shift_at (suc e) zero f h = absurd (omega arith)
 shift_at (suc e) (suc k) f h = shift_at e k f (omega arith) ∙ ap f (omega arith)
-
-pub shift_neg : (e : ℕ) (f g : ℕ → ℤ) → ((k : ℕ) → f k ≡ neg_ℤ (g k)) → (k : ℕ) → shift e f k ≡ neg_ℤ (shift e g k)
-shift_neg zero f g h k = h k
-shift_neg (suc e) f g h zero = refl
-shift_neg (suc e) f g h (suc k) = shift_neg e f g h k
-
-pub shift_add : (s : ℕ) (f g h : ℕ → ℤ) → ((k : ℕ) → f k ≡ g k +ℤ h k) → (k : ℕ) → shift s f k ≡ shift s g k +ℤ shift s h k
-shift_add zero f g h e k = e k
-shift_add (suc s) f g h e zero = refl
-shift_add (suc s) f g h e (suc k) = shift_add s f g h e k
 
 -- t^e has the coefficient 1 at e and 0 elsewhere
 pub power_at : (e : ℕ) → shift e one e ≡ pos 1
@@ -167,59 +151,3 @@ pub coefficient_padded : (p : List ℤ) (j k : ℕ) → coefficient (p ++ replic
 coefficient_padded [] j k = zeros_coefficient j k
 coefficient_padded (x ∷ p) j zero = refl
 coefficient_padded (x ∷ p) j (suc k) = coefficient_padded p j k
-
--- trimmed lists as parts
-
-trim_cons_length : (x : ℤ) (p : List ℤ) → length (trim_cons x p) ≤ suc (length p)
-trim_cons_length x (y ∷ p) = omega arith
-trim_cons_length (pos zero) [] = omega arith
-trim_cons_length (pos (suc n)) [] = omega arith
-trim_cons_length (negsuc n) [] = omega arith
-
-pub trim_length : (s : List ℤ) → length (trim s) ≤ length s
-trim_length [] = omega arith
-trim_length (x ∷ s) = omega (arith, trim_cons_length x (trim s), trim_length s)
-
-module _ (s : List ℤ) where
-  -- a coefficient of the zeros behind
-  behind : (m k : ℕ) → coefficient (replicate m (pos 0)) k ≡ pos 0
-  behind m k = go (ltb k m) refl
-    where
-      go : (t : Bool) → ltb k m ≡ t → coefficient (replicate m (pos 0)) k ≡ pos 0
-      go true p = get_or-replicate m k (pos 0) (pos 0) (ltb-true k m p)
-      go false p = get_or-eq_default (replicate m (pos 0)) (pos 0) (rw length-replicate (ltb-false k m p))
-
-  pub trim_pads : s ≡ trim s ++ replicate (length s - length (trim s)) (pos 0)
-  trim_pads =
-      ext_get_or (pos 0) s (trim s ++ replicate (length s - length (trim s)) (pos 0))
-      (sym (simp (length-append, length-replicate) (omega (arith, trim_length s))))
-      (λ k h. go k (ltb k (length (trim s))) refl)
-    where
-      go : (k : ℕ) (t : Bool) → ltb k (length (trim s)) ≡ t → coefficient s k ≡ coefficient (trim s ++ replicate (length s - length (trim s)) (pos 0)) k
-      go k true p =
-          sym (get_or-append (trim s) (replicate (length s - length (trim s)) (pos 0)) (pos 0) k (ltb-true k (length (trim s)) p) ∙ trim_coefficient s k)
-      go k false p =
-          let l : length (trim s) ≤ k = ltb-false k (length (trim s)) p in
-          let e : k ≡ length (trim s) + (k - length (trim s)) = omega arith in
-          sym (trim_coefficient s k)
-          ∙ get_or-eq_default (trim s) (pos 0) l
-          ∙ sym
-          (ap (coefficient (trim s ++ replicate (length s - length (trim s)) (pos 0))) e
-          ∙ get_or-append-add (trim s) (replicate (length s - length (trim s)) (pos 0)) (k - length (trim s)) (pos 0)
-          ∙ behind (length s - length (trim s)) (k - length (trim s)))
-
-  pub trim_take : (k : ℕ) → coefficient (take (length (trim s)) s) k ≡ coefficient s k
-  trim_take k = go (ltb k (length (trim s))) refl
-    where
-      go : (b : Bool) → ltb k (length (trim s)) ≡ b → coefficient (take (length (trim s)) s) k ≡ coefficient s k
-      go true p = get_or-take (length (trim s)) s k (pos 0) (ltb-true k (length (trim s)) p)
-      go false p =
-          get_or-eq_default (take (length (trim s)) s) (pos 0) (rw (length-take-le (length (trim s)) s (trim_length s)) (ltb-false k (length (trim s)) p))
-          ∙ sym (get_or-eq_default (trim s) (pos 0) (ltb-false k (length (trim s)) p))
-          ∙ trim_coefficient s k
-
-pub first_is : (n : ℕ) (f : ℕ → ℤ) (s : List ℤ) → length s ≡ n → ((k : ℕ) → k < n → coefficient s k ≡ f k) → s ≡ first n f
-first_is zero f [] h e = refl
-first_is zero f (x ∷ s) h e = absurd (omega arith)
-first_is (suc n) f [] h e = absurd (omega arith)
-first_is (suc n) f (x ∷ s) h e = ap₂ {C = List ℤ} ◌∷◌ (e 0 (omega arith)) (first_is n (λ k. f (suc k)) s (omega arith) (λ k l. e (suc k) (omega arith)))

@@ -7,25 +7,23 @@
 --   same_drop                             a member that another divides may go
 --   same_cons, same_append, same_colon    the same multiples stay the same
 --   unit_all                              with a unit every monomial is a multiple
---   row_end                               the cells of one monomial end within those of all
 --   listed_width, listed_count            a list read from cells has its width and its count
 --   listed_from n s i cells                == its monomials from number i on
 --   listed_all, listed_none, listed_next  from 0 on, past the end, and from i on by number i and the rest
---   listed_append, listed_last            one list behind another in the cells, and one monomial more at the end
---   lcm_of_divides                         each member divides the lcm of all
+--   multiple-lcmOf                        each member divides the lcm of all
 use mathlib.Core.Path.{◌≡◌, refl, sym, ap, ap₂, ◌∙◌}
-use mathlib.Core.Logic.{◌⊎◌, inl, inr}
+use mathlib.Core.Logic.{◌⊎◌, inl, inr, ◌≢◌}
 use mathlib.Core.Bool.{Bool, true, false, ◌||◌, false≢true}
 use mathlib.Core.List.{List, [], ◌∷◌, ◌++◌}
 use Prim.Native.Nat.{ℕ, zero, suc, ◌+◌, ◌*◌, ◌-◌, ◌≤◌, ◌<◌}
 use native.Mathlib.Omega.{arith}
-use native.Mathlib.Nat.{mul-le-mul_right, suc-mul, zero-mul}
+use native.Mathlib.Nat.{suc-mul, zero-mul}
 use native.Mathlib.Numerals.{add-one}
 use lib.Dec.{eqb}
 use lib.ListN.{length, take, drop, length-take, length-drop}
-use lib.Seq.{drop-drop, take-append-le, drop-append-le}
+use lib.Seq.{drop-drop}
 use borrow.Author.Tests.{eqb-true}
-use Rattle.laws.specs.Monomial.{degree, divides, product, quotient}
+use Rattle.laws.specs.Monomial.{degree, divides, product, quotient, lcm}
 use Rattle.laws.specs.Ideal.{listed, In, Width, Within, multiple, Same, lcm_of, colon, unit_in}
 use Rattle.laws.proofs.Monomial.{or_right, bool_ext, divides_refl, divides_trans, quotient_divides, length_product, length_quotient, unit_divides, divides_lcm_left, divides_lcm_right}
 
@@ -188,10 +186,6 @@ lcm_of_divides (a ∷ L) m (inr i) = divides_lcm_right m a (lcm_of L) (lcm_of_di
 
 -- a list read from cells
 
--- monomial number i of k, of n cells each, ends within k * n
-pub row_end : (n k i : ℕ) → i < k → i * n + n ≤ k * n
-row_end n k i h = omega (arith, mul-le-mul_right n h, suc-mul i n)
-
 pub listed_count : (n s : ℕ) (cells : List ℕ) → length (listed n s cells) ≡ s
 listed_count n zero cells = refl
 listed_count n (suc s) cells = ap suc (listed_count n s (drop n cells))
@@ -225,26 +219,3 @@ listed_next n s i cells h =
     let f : i * n + n - i * n ≡ n = omega arith in
     let g : i * n + n ≡ (i + 1) * n = rw (add-one i) (sym (suc-mul i n)) in
     rw (e, f) (ap (λ (t : List ℕ). take n (drop (i * n) cells) ∷ listed n (s - (i + 1)) t) (drop-drop n (i * n) cells ∙ ap (λ (k : ℕ). drop k cells) g))
-
--- one list behind another, and one monomial more
-
-pub listed_append : (n s t : ℕ) (xs ys : List ℕ) → length xs ≡ s * n → listed n (s + t) (xs ++ ys) ≡ listed n s xs ++ listed n t ys
-listed_append n zero t [] ys e = let f : 0 + t ≡ t = omega arith in ap (λ (z : ℕ). listed n z ys) f
-listed_append n zero t (x ∷ xs) ys e = absurd (omega (arith, zero-mul n))
-listed_append n (suc s) t xs ys e =
-    let f : suc s + t ≡ suc (s + t) = omega arith in
-    let h : n ≤ length xs = omega (arith, suc-mul s n) in
-    ap (λ (z : ℕ). listed n z (xs ++ ys)) f
-    ∙ ap₂ {C = List (List ℕ)} ◌∷◌ (take-append-le n xs ys h)
-    (ap (listed n (s + t)) (drop-append-le n xs ys h) ∙ listed_append n s t (drop n xs) ys (simp length-drop (omega (arith, suc-mul s n))))
-
-listed_more : (n t : ℕ) (ys : List ℕ) → listed n (suc t) ys ≡ listed n t ys ++ take n (drop (t * n) ys) ∷ []
-listed_more n zero ys = ap (λ (z : ℕ). take n (drop z ys) ∷ []) (sym (zero-mul n))
-listed_more n (suc t) ys =
-    let e : n + t * n ≡ suc t * n = omega (arith, suc-mul t n) in
-    ap (λ (K : List (List ℕ)). take n ys ∷ K)
-    (listed_more n t (drop n ys)
-    ∙ ap (λ (z : List ℕ). listed n t (drop n ys) ++ take n z ∷ []) (drop-drop (t * n) n ys ∙ ap (λ (z : ℕ). drop z ys) e))
-
-pub listed_last : (n t : ℕ) (ys : List ℕ) → listed n (t + 1) ys ≡ listed n t ys ++ take n (drop (t * n) ys) ∷ []
-listed_last n t ys = rw (add-one t) (listed_more n t ys)

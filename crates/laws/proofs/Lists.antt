@@ -1,6 +1,7 @@
 -- Lists as loops go through them, one cell a turn.
 --   drop_next       what is left of a list, by its next cell
 --   written_next    a list whose first i cells have become those of another: one cell more
+--   written_length  it keeps its length
 --   written_all     all cells are written
 --   drop_back       two lists that are equal from cell i + 1 on and in cell i are equal from cell i on
 --   replicate_constant, take_constant   a list of one value, and a part of it, read anywhere with that value as the default
@@ -10,7 +11,7 @@ use mathlib.Core.List.{List, [], ◌∷◌, ◌++◌, append-nil}
 use Prim.Native.Nat.{ℕ, zero, suc, ◌+◌, ◌≤◌, ◌<◌}
 use native.Mathlib.Numerals.{add-one}
 use native.Mathlib.Omega.{arith}
-use lib.ListN.{length, get_or, take, drop, set, replicate, drop_of_length-le}
+use lib.ListN.{length, get_or, take, drop, set, replicate, length-append, length-take, length-drop, drop_of_length-le}
 use lib.Seq.{drop-cons, take_all}
 
 -- what is left before cell i: cell i, and what is left after it
@@ -27,6 +28,10 @@ written_suc (x ∷ s) (y ∷ d) (suc i) h k = ap (λ (t : List ℕ). x ∷ t) (w
 -- the first i cells of d are those of s; x, the next of s, is written after them
 pub written_next : (s d : List ℕ) (i x : ℕ) → i < length s → i < length d → get_or s i 0 ≡ x → set (take i s ++ drop i d) i x ≡ take (i + 1) s ++ drop (i + 1) d
 written_next s d i x h k e = rw (add-one, ← e) (written_suc s d i h k)
+
+-- and the length is that of d
+pub written_length : (s d : List ℕ) (i : ℕ) → length s ≡ length d → length (take i s ++ drop i d) ≡ length d
+written_length s d i e = simp (length-append, length-take, length-drop) (omega arith)
 
 -- the end: s stands in its place
 pub written_all : (s d : List ℕ) (i : ℕ) → length s ≡ length d → length d ≤ i → take i s ++ drop i d ≡ s

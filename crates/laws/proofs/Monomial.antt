@@ -10,18 +10,15 @@
 --   product_nil, degree_product, length_product    the product
 --   lcm_product                                    lcm(c·e, m) = c·lcm(e, m / gcd(m, c))
 --   length_lcm, length_quotient                    widths
---   divides_cells, coprime_cells, quotient_cell    by exponents: what a monomial divides, coprime, and quotients
---   axis-..                                        the exponents, degree, width, multiples and quotients of a power of one variable
 use mathlib.Core.Path.{◌≡◌, refl, sym, ap, ap₂, ◌∙◌}
-use mathlib.Core.Logic.{◌≢◌}
-use mathlib.Core.Bool.{Bool, true, false, ◌&&◌, ◌||◌, false≢true}
+use mathlib.Core.Bool.{Bool, true, false, not, ◌&&◌, ◌||◌, false≢true}
 use mathlib.Core.List.{List, [], ◌∷◌}
-use Prim.Native.Nat.{ℕ, zero, suc, ◌+◌, ◌-◌, ◌≤◌, max, min}
+use Prim.Native.Nat.{ℕ, zero, suc, ◌+◌, ◌-◌, ◌≤◌, ◌<◌, max, min}
 use native.Mathlib.Omega.{arith}
 use lib.Dec.{leb, eqb}
-use lib.ListN.{length, get_or, set}
+use lib.ListN.{length}
 use borrow.Author.Tests.{leb-true, leb-false, le-leb, lt-leb, eqb-true, eqb-false}
-use Rattle.laws.specs.Monomial.{degree, exponent, divides, product, quotient, lcm, coprime, axis}
+use Rattle.laws.specs.Monomial.{degree, exponent, divides, product, quotient, lcm, gcd, coprime}
 
 -- tests
 
@@ -252,55 +249,3 @@ lcm_product [] e m = refl
 lcm_product (x ∷ c) [] m = lcm_quotient (x ∷ c) m
 lcm_product (x ∷ c) (y ∷ e) [] = refl
 lcm_product (x ∷ c) (y ∷ e) (z ∷ m) = cons_eq (omega arith) (lcm_product c e m)
-
--- by exponents
-
--- a monomial's multiples go by its exponents
-pub divides_cells : (a b u : List ℕ) → ((j : ℕ) → get_or a j 0 ≡ get_or b j 0) → divides a u ≡ divides b u
-divides_cells a b u e =
-    bool_ext (divides a u) (divides b u)
-    (λ h. exponents_divide b u (λ v. omega (arith, e v, divides_exponent a u h v)))
-    (λ h. exponents_divide a u (λ v. omega (arith, e v, divides_exponent b u h v)))
-
-pub coprime_cells : (a b : List ℕ) → ((v : ℕ) → min (get_or a v 0) (get_or b v 0) ≡ 0) → coprime a b ≡ true
-coprime_cells [] b h = refl
-coprime_cells (x ∷ a) [] h = refl
-coprime_cells (x ∷ a) (y ∷ b) h = ap₂ ◌&&◌ (min_apart x y (h 0)) (coprime_cells a b (λ v. h (suc v)))
-
-pub quotient_cell : (a c : List ℕ) (j : ℕ) → get_or (quotient a c) j 0 ≡ get_or a j 0 - get_or c j 0
-quotient_cell a [] j = omega arith
-quotient_cell [] (y ∷ c) j = omega arith
-quotient_cell (x ∷ a) (y ∷ c) zero = refl
-quotient_cell (x ∷ a) (y ∷ c) (suc j) = quotient_cell a c j
-
--- x_v^e
-
-pub axis_same : (v e : ℕ) → get_or (axis v e) v 0 ≡ e
-axis_same zero e = refl
-axis_same (suc v) e = axis_same v e
-
-pub axis_other : (v e j : ℕ) → j ≢ v → get_or (axis v e) j 0 ≡ 0
-axis_other zero e zero h = absurd (h refl)
-axis_other zero e (suc j) h = refl
-axis_other (suc v) e zero h = refl
-axis_other (suc v) e (suc j) h = axis_other v e j (omega arith)
-
-pub axis_degree : (v e : ℕ) → degree (axis v e) ≡ e
-axis_degree zero e = omega arith
-axis_degree (suc v) e = omega (arith, axis_degree v e)
-
-pub axis_length : (v e : ℕ) → length (axis v e) ≡ suc v
-axis_length zero e = refl
-axis_length (suc v) e = ap suc (axis_length v e)
-
-pub axis_divides : (v e : ℕ) (u : List ℕ) → e ≤ get_or u v 0 → divides (axis v e) u ≡ true
-axis_divides zero e [] h = ap₂ ◌&&◌ (le-leb e 0 h) refl
-axis_divides zero e (x ∷ u) h = ap₂ ◌&&◌ (le-leb e x h) refl
-axis_divides (suc v) e [] h = ap₂ ◌&&◌ (le-leb 0 0 (omega arith)) (axis_divides v e [] h)
-axis_divides (suc v) e (x ∷ u) h = ap₂ ◌&&◌ (le-leb 0 x (omega arith)) (axis_divides v e u h)
-
-pub axis_quotient : (v e : ℕ) (a : List ℕ) → quotient a (axis v e) ≡ set a v (get_or a v 0 - e)
-axis_quotient zero e [] = refl
-axis_quotient zero e (x ∷ a) = refl
-axis_quotient (suc v) e [] = refl
-axis_quotient (suc v) e (x ∷ a) = cons_eq (omega arith) (axis_quotient v e a)

@@ -12,20 +12,19 @@
 --   numerator_degree      0 past the degree of the lcm of all
 --   numerator_coefficient, numerator_trimmed   the trimmed list has these coefficients
 use mathlib.Core.Path.{◌≡◌, refl, sym, ap, ap₂, ◌∙◌}
-use mathlib.Core.Logic.{inl, inr}
-use mathlib.Core.Bool.{true}
+use mathlib.Core.Logic.{◌⊎◌, inl, inr, ◌≢◌}
+use mathlib.Core.Bool.{Bool, true, false, not, ◌&&◌, ◌||◌}
 use mathlib.Core.List.{List, [], ◌∷◌, ◌++◌, map}
-use Prim.Native.Nat.{ℕ, zero, suc, ◌≤◌, ◌<◌, ◌^◌}
+use Prim.Native.Nat.{ℕ, zero, suc, ◌+◌, ◌*◌, ◌≤◌, ◌<◌, ◌^◌, max}
 use native.Mathlib.Omega.{arith}
 use native.Mathlib.Nat.{pow-suc}
 use lib.ListN.{length}
-use lib.IntN.{ℤ, pos, ◌+ℤ◌, ◌-ℤ◌, neg_ℤ, nat_abs, +ℤ_assoc, +ℤ_idl, +ℤ_idr, neg_ℤ-+ℤ, -ℤ-+ℤ_cancel}
-use Rattle.laws.specs.Monomial.{degree, divides, product, quotient, lcm}
+use lib.IntN.{ℤ, pos, negsuc, ◌+ℤ◌, ◌-ℤ◌, neg_ℤ, nat_abs, +ℤ_assoc, +ℤ_idl, +ℤ_idr, neg_ℤ-+ℤ, -ℤ-+ℤ_cancel}
+use Rattle.laws.specs.Monomial.{degree, divides, product, quotient, lcm, coprime}
 use Rattle.laws.specs.Ideal.{In, multiple, lcm_of, colon, unit_in}
 use Rattle.laws.specs.Coefficients.{coefficient, Trimmed, first, one, shift}
 use Rattle.laws.specs.Numerator.{subsets, signed, total, numerator_at, numerator}
 use Rattle.laws.specs.Room.{coefficients_asked}
-use Rattle.laws.specs.Coprime.{AllCoprime, PairwiseCoprime}
 use Rattle.laws.proofs.Monomial.{lcm_nil, lcm_assoc, lcm_swap, degree_lcm, degree_absorb, degree_lcm_coprime, coprime_lcm, divides_lcm_left, product_nil, degree_product, lcm_product, unit_divides}
 use Rattle.laws.proofs.Ideal.{multiple_divisor, unit_member}
 use Rattle.laws.proofs.Integer.{sub_of_sub, sub_self, sub_zero, abs_sub}
@@ -102,6 +101,13 @@ pub numerator_append_one : (L : List (List ℕ)) (g : List ℕ) (k : ℕ) → nu
 numerator_append_one L g k = numerator_over (L ++ g ∷ []) k ∙ over_append_one [] L g k ∙ ap₂ ◌-ℤ◌ (sym (numerator_over L k)) (over_colon g L k)
 
 -- coprime lists
+
+abbrev pub AllCoprime : List ℕ → List (List ℕ) → Type 0
+AllCoprime c L = (m : List ℕ) → In m L → coprime c m ≡ true
+
+abbrev pub PairwiseCoprime : List (List ℕ) → Type 0
+PairwiseCoprime [] = Unit {0}
+PairwiseCoprime (m ∷ L) = AllCoprime m L × PairwiseCoprime L
 
 -- the product of all 1 − t^a
 abbrev pub factors : List ℕ → ℕ → ℤ

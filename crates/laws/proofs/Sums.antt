@@ -10,15 +10,13 @@
 --   sums_size                of magnitudes: those of the positive parts and those of the negative ones
 --   capped_add               a sum held down to a limit depends on its terms held down alone
 --   capped_reaches           a number held down reaches the limit exactly where the number does
---   sum_below_ext, product_below_ext   sums and products below a bound, by values
---   sum_below_next, sum_below_most, sum_below_past   one term more, at most as many times the greatest, and terms that are 0
+--   product_below_ext         a product by values
 --   sum_term                 a term is at most the sum
 --   residue_sum, residue_sums  sums of residues have the residues of the sums
 use mathlib.Core.Path.{◌≡◌, refl, sym, ap, ap₂, ◌∙◌}
 use mathlib.Core.Bool.{Bool, true, false}
 use Prim.Native.Nat.{ℕ, zero, suc, ◌+◌, ◌*◌, ◌%◌, ◌≤◌, ◌<◌, min}
-use native.Mathlib.Nat.{mod-eq_of_lt, add-mod, suc-mul}
-use native.Mathlib.Numerals.{add-one}
+use native.Mathlib.Nat.{mod-eq_of_lt, add-mod}
 use native.Mathlib.Omega.{arith}
 use lib.Dec.{leb, eqb}
 use borrow.Author.Tests.{leb-true, leb-false, le-leb, lt-leb, eqb-true, eqb-false}
@@ -168,24 +166,3 @@ module _ (P : ℕ) where
     pub residue_sums : (n m : ℕ) (f : ℕ → ℤ) (x : ℕ → ℕ) → ((k : ℕ) → k < m → x k ≡ residue P (f k)) → (k : ℕ) → k < m → sums n x k % P ≡ residue P (sumsℤ n f k)
     residue_sums zero m f x h k l = ap (λ (a : ℕ). a % P) (h k l) ∙ residue_mod (f k)
     residue_sums (suc n) m f x h k l = residue_sum m (sumsℤ n f) (sums n x) (residue_sums n m f x h) k l
-
--- sums below a bound
-
-pub sum_below_ext : (n : ℕ) (f g : ℕ → ℕ) → ((v : ℕ) → v < n → f v ≡ g v) → sum_below n f ≡ sum_below n g
-sum_below_ext zero f g h = refl
-sum_below_ext (suc n) f g h = ap₂ ◌+◌ (h n (omega arith)) (sum_below_ext n f g (λ v l. h v (omega arith)))
-
-pub sum_below_next : (v d x : ℕ) (f : ℕ → ℕ) → x ≡ f v → d ≡ sum_below v f → d + x ≡ sum_below (v + 1) f
-sum_below_next v d x f e h = rw (add-one v) (omega arith)
-
-pub sum_below_most : (n k : ℕ) (f : ℕ → ℕ) → ((v : ℕ) → f v ≤ k) → sum_below n f ≤ n * k
-sum_below_most zero k f h = omega arith
-sum_below_most (suc n) k f h = omega (arith, h n, sum_below_most n k f h, suc-mul n k)
-
--- variables past the width add nothing
-pub sum_below_past : (d a : ℕ) (f : ℕ → ℕ) → ((v : ℕ) → a ≤ v → f v ≡ 0) → sum_below (d + a) f ≡ sum_below a f
-sum_below_past zero a f h = let e : 0 + a ≡ a = omega arith in ap (λ (z : ℕ). sum_below z f) e
-sum_below_past (suc d) a f h =
-    let e : suc d + a ≡ suc (d + a) = omega arith in
-    let g : sum_below (suc (d + a)) f ≡ sum_below a f = omega (arith, h (d + a) (omega arith), sum_below_past d a f h) in
-    ap (λ (z : ℕ). sum_below z f) e ∙ g

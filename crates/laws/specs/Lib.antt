@@ -5,9 +5,7 @@ pub mod Count
 pub mod Coefficients
 pub mod Sums
 pub mod Room
-pub mod Coprime
 pub mod Numerator
-pub mod Seeded
 pub mod Hilbert
 pub mod Order
 pub mod Minimal

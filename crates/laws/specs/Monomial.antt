@@ -8,10 +8,8 @@
 --   gcd a b        == the smaller of the two
 --   coprime a b    == no variable has an exponent above 0 in both
 --   power n v x    == variable v to the x, written out in n variables
---   axis v e       == variable v to the e, written out in v + 1 variables, as many as it needs
---   restrict us m  == m without the variables at which us is 0
 -- Assumes nothing.
-use Rattle.std.specs.Prelude.{◌≡◌, refl, Bool, true, false, ◌&&◌, ◌||◌, List, [], ◌∷◌, ℕ, zero, suc, ◌+◌, ◌-◌, max, min, leb, eqb, get_or, set, replicate}
+use Rattle.std.specs.Prelude.{◌≡◌, refl, Bool, true, false, ◌&&◌, ◌||◌, List, [], ◌∷◌, ℕ, ◌+◌, ◌-◌, max, min, leb, eqb, get_or, set, replicate}
 
 abbrev pub degree : List ℕ → ℕ
 degree [] = 0
@@ -53,16 +51,6 @@ coprime (x ∷ a) (y ∷ b) = (eqb x 0 || eqb y 0) && coprime a b
 abbrev pub power : ℕ → ℕ → ℕ → List ℕ
 power n v x = set (replicate n 0) v x
 
-abbrev pub axis : ℕ → ℕ → List ℕ
-axis zero e = e ∷ []
-axis (suc v) e = 0 ∷ axis v e
-
-abbrev pub restrict : List ℕ → List ℕ → List ℕ
-restrict [] m = []
-restrict (u ∷ us) [] = []
-restrict (zero ∷ us) (x ∷ m) = restrict us m
-restrict (suc u ∷ us) (x ∷ m) = x ∷ restrict us m
-
 test_degree : degree (2 ∷ 0 ∷ 3 ∷ []) ≡ 5
 test_degree = refl
 
@@ -80,9 +68,3 @@ test_lcm = refl
 
 test_power : power 3 1 7 ≡ 0 ∷ 7 ∷ 0 ∷ []
 test_power = refl
-
-test_axis : axis 1 7 ≡ 0 ∷ 7 ∷ []
-test_axis = refl
-
-test_restrict : restrict (2 ∷ 0 ∷ 1 ∷ []) (3 ∷ 0 ∷ 4 ∷ []) ≡ 3 ∷ 4 ∷ []
-test_restrict = refl

@@ -1,7 +1,5 @@
 -- The sizes that a call asks of the rooms lent to it. All listed monomials count, repeated and divided ones too.
---   holds x xs             == x is one of xs
 --   distinct xs            == how many different numbers other than 0 stand in xs
---   greatest xs            == the greatest number in xs, 0 for none
 --   column L v             == the exponents of variable v, member by member
 --   pairs n L              == e: how many different pairs (variable, nonzero exponent) L has
 --   cells_asked n L         == exponent cells: s·n·(s + e)
@@ -10,7 +8,7 @@
 --   hilbert_words d         == words of the sum room for `hf_at` at degree d
 --   dimension_words D       == words of the sum room for a dimension
 -- Assumes nothing.
-use Rattle.std.specs.Prelude.{◌≡◌, refl, Bool, false, ◌||◌, cond, List, [], ◌∷◌, map, ℕ, suc, ◌+◌, ◌*◌, max, eqb, ℤ, length}
+use Rattle.std.specs.Prelude.{◌≡◌, refl, Bool, true, false, ◌||◌, cond, List, [], ◌∷◌, map, ℕ, suc, ◌+◌, ◌*◌, max, eqb, ℤ, length}
 use Rattle.laws.specs.Monomial.{degree, exponent}
 use Rattle.laws.specs.Ideal.{lcm_of}
 use Rattle.laws.specs.Sums.{sum_below}
@@ -22,10 +20,6 @@ holds x (y ∷ xs) = eqb x y || holds x xs
 abbrev pub distinct : List ℕ → ℕ
 distinct [] = 0
 distinct (x ∷ xs) = cond (eqb x 0 || holds x xs) (distinct xs) (suc (distinct xs))
-
-abbrev pub greatest : List ℕ → ℕ
-greatest [] = 0
-greatest (x ∷ xs) = max x (greatest xs)
 
 abbrev pub column : List (List ℕ) → ℕ → List ℕ
 column L v = map (λ m. exponent m v) L

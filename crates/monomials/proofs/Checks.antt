@@ -1,4 +1,5 @@
 -- What a call's checks decide.
+--   max_width, max_exponent                 the code's limits
 --   pair_width, write_width               checks 1 and 3 of two monomials passed: they have one width
 --   last_test, last_refuses, last_passes  one check more, after the others
 --   last_same                             it need be known only where the others passed
@@ -14,11 +15,16 @@ use lib.Dec.{ltb, eqb}
 use lib.ListN.{length}
 use borrow.Author.Tests.{eqb-true}
 use Rattle.laws.proofs.Monomial.{and_left, and_right}
-use Rattle.monomials.specs.Limits.{max_width}
 use Rattle.monomials.specs.Refusal.{Check, refusal, after}
 use Rattle.monomials.specs.Monomial.{differ, pair_checks, write_checks, write_answer, test_answer}
 use Rattle.monomials.specs.Cells.{passed}
 use Rattle.monomials.specs.declared.refusal.Refusal.{Refusal}
+
+abbrev pub max_width : ℕ
+max_width = 255
+
+abbrev pub max_exponent : ℕ
+max_exponent = 65535
 
 not_not : (t : Bool) → not (not t) ≡ t
 not_not true = refl
@@ -30,17 +36,17 @@ last_test true = refl
 last_test false = refl
 
 -- whatever checks come after those of two monomials
-passed_widths : (a b : List ℕ) (cs : List Check) → passed (pair_checks a b ++ cs) ≡ true → length b ≡ length a
-passed_widths a b cs h =
+passed_widths : (W : ℕ) (a b : List ℕ) (cs : List Check) → passed (pair_checks W a b ++ cs) ≡ true → length b ≡ length a
+passed_widths W a b cs h =
     let same : Bool = eqb (length b) (length a) in
-    let rest = and_right (not (ltb max_width (length a))) (not (not same) && passed cs) h in
+    let rest = and_right (not (ltb W (length a))) (not (not same) && passed cs) h in
     eqb-true (length b) (length a) (sym (not_not same) ∙ and_left (not (not same)) (passed cs) rest)
 
-pub pair_width : (a b : List ℕ) → passed (pair_checks a b) ≡ true → length b ≡ length a
-pair_width a b h = passed_widths a b [] h
+pub pair_width : (W : ℕ) (a b : List ℕ) → passed (pair_checks W a b) ≡ true → length b ≡ length a
+pair_width W a b h = passed_widths W a b [] h
 
-pub write_width : (a b out : List ℕ) → passed (write_checks a b out) ≡ true → length b ≡ length a
-write_width a b out h = passed_widths a b (differ out (length a) ∷ []) h
+pub write_width : (W : ℕ) (a b out : List ℕ) → passed (write_checks W a b out) ≡ true → length b ≡ length a
+write_width W a b out h = passed_widths W a b (differ out (length a) ∷ []) h
 
 -- the last check decides where the others passed
 pub last_refuses : (cs : List Check) (t : Bool) (r : Refusal) → passed cs ≡ true → t ≡ true → refusal (cs ++ (t, r) ∷ []) ≡ some r

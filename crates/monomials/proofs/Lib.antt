@@ -1,5 +1,4 @@
 -- The proofs of layer 1.
 mod Checks
 mod Pairs
-pub mod Refusals
 pub mod Determined

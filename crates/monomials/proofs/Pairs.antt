@@ -16,7 +16,6 @@ use lib.ListN.{length, get_or, drop, drop_of_length-le}
 use Rattle.laws.specs.Monomial.{divides, product, quotient, lcm, gcd, coprime}
 use Rattle.laws.proofs.Lists.{drop_next}
 use Rattle.laws.proofs.Monomial.{and_right, head_le, cons_eq}
-use Rattle.monomials.specs.Limits.{max_exponent}
 use Rattle.monomials.specs.Cells.{passes_of, combined_of, all_cells, zip_cells}
 use Rattle.monomials.specs.Monomial.{order_of, at_most}
 use Rattle.monomials.specs.declared.cells.Test.TheVariants.{AtMost, AtLeast, Apart, SumFits}
@@ -66,38 +65,38 @@ module _ (f : ℕ → ℕ → ℕ) where
 
 -- the tests
 
-pub all_divides : (a b : List ℕ) → length b ≡ length a → all_cells (passes_of AtMost) a b ≡ divides a b
-all_divides [] b e = refl
-all_divides (x ∷ a) [] e = absurd (omega arith)
-all_divides (x ∷ a) (y ∷ b) e = ap (λ (t : Bool). leb x y && t) (all_divides a b (omega arith))
+pub all_divides : (E : ℕ) (a b : List ℕ) → length b ≡ length a → all_cells (passes_of E AtMost) a b ≡ divides a b
+all_divides E [] b e = refl
+all_divides E (x ∷ a) [] e = absurd (omega arith)
+all_divides E (x ∷ a) (y ∷ b) e = ap (λ (t : Bool). leb x y && t) (all_divides E a b (omega arith))
 
-pub all_divisor : (a b : List ℕ) → length b ≡ length a → all_cells (passes_of AtLeast) a b ≡ divides b a
-all_divisor [] [] e = refl
-all_divisor [] (y ∷ b) e = absurd (omega arith)
-all_divisor (x ∷ a) [] e = absurd (omega arith)
-all_divisor (x ∷ a) (y ∷ b) e = ap (λ (t : Bool). leb y x && t) (all_divisor a b (omega arith))
+pub all_divisor : (E : ℕ) (a b : List ℕ) → length b ≡ length a → all_cells (passes_of E AtLeast) a b ≡ divides b a
+all_divisor E [] [] e = refl
+all_divisor E [] (y ∷ b) e = absurd (omega arith)
+all_divisor E (x ∷ a) [] e = absurd (omega arith)
+all_divisor E (x ∷ a) (y ∷ b) e = ap (λ (t : Bool). leb y x && t) (all_divisor E a b (omega arith))
 
-pub all_coprime : (a b : List ℕ) → all_cells (passes_of Apart) a b ≡ coprime a b
-all_coprime [] b = refl
-all_coprime (x ∷ a) [] = refl
-all_coprime (x ∷ a) (y ∷ b) = rw (all_coprime a b)
+pub all_coprime : (E : ℕ) (a b : List ℕ) → all_cells (passes_of E Apart) a b ≡ coprime a b
+all_coprime E [] b = refl
+all_coprime E (x ∷ a) [] = refl
+all_coprime E (x ∷ a) (y ∷ b) = rw (all_coprime E a b)
 
-pub all_fits : (a b : List ℕ) → length b ≡ length a → all_cells (passes_of SumFits) a b ≡ at_most max_exponent (product a b)
-all_fits [] [] e = refl
-all_fits [] (y ∷ b) e = absurd (omega arith)
-all_fits (x ∷ a) [] e = absurd (omega arith)
-all_fits (x ∷ a) (y ∷ b) e = ap (λ (t : Bool). leb (x + y) max_exponent && t) (all_fits a b (omega arith))
+pub all_fits : (E : ℕ) (a b : List ℕ) → length b ≡ length a → all_cells (passes_of E SumFits) a b ≡ at_most E (product a b)
+all_fits E [] [] e = refl
+all_fits E [] (y ∷ b) e = absurd (omega arith)
+all_fits E (x ∷ a) [] e = absurd (omega arith)
+all_fits E (x ∷ a) (y ∷ b) e = ap (λ (t : Bool). leb (x + y) E && t) (all_fits E a b (omega arith))
 
 -- the monomials that are written
 
 -- a sum that fits a cell is not cut
-pub zip_product : (a b : List ℕ) → length b ≡ length a → at_most max_exponent (product a b) ≡ true → zip_cells (combined_of Sum) a b ≡ product a b
+pub zip_product : (a b : List ℕ) → length b ≡ length a → at_most 65535 (product a b) ≡ true → zip_cells (combined_of Sum) a b ≡ product a b
 zip_product [] [] e h = refl
 zip_product [] (y ∷ b) e h = absurd (omega arith)
 zip_product (x ∷ a) [] e h = absurd (omega arith)
 zip_product (x ∷ a) (y ∷ b) e h =
-    cons_eq (mod-eq_of_lt (omega (arith, head_le (x + y) max_exponent (at_most max_exponent (product a b)) h)))
-    (zip_product a b (omega arith) (and_right (leb (x + y) max_exponent) (at_most max_exponent (product a b)) h))
+    cons_eq (mod-eq_of_lt (omega (arith, head_le (x + y) 65535 (at_most 65535 (product a b)) h)))
+    (zip_product a b (omega arith) (and_right (leb (x + y) 65535) (at_most 65535 (product a b)) h))
 
 pub zip_quotient : (a b : List ℕ) → length b ≡ length a → zip_cells (combined_of Difference) a b ≡ quotient a b
 zip_quotient [] [] e = refl

@@ -1,6 +1,6 @@
 -- The call for a mask, and a mask as the list of its words.
 --   words m              == the low word, the high word
---   mask_answer n M exps  == the answer for width n and greatest exponent M
+--   mask_answer W n M exps == the answer for width n and greatest exponent M; W is the greatest width
 -- Assumes nothing.
 use Rattle.std.specs.Prelude.{List, [], ◌∷◌, ℕ, get_or}
 use Rattle.std.proofs.Math.Option.{Option, none, some}
@@ -21,5 +21,5 @@ abbrev pub judged : Option Refusal → DivMask → MaskAnswer
 judged none m = record { outcome = MaskOutcome.Value m }
 judged (some r) m = record { outcome = MaskOutcome.Refused r }
 
-abbrev pub mask_answer : ℕ → ℕ → List ℕ → MaskAnswer
-mask_answer n M exps = judged (refusal (too_wide n ∷ [])) (of_words (mask n M exps))
+abbrev pub mask_answer : ℕ → ℕ → ℕ → List ℕ → MaskAnswer
+mask_answer W n M exps = judged (refusal (too_wide W n ∷ [])) (of_words (mask n M exps))

@@ -1,4 +1,5 @@
--- The calls on monomials: each one's checks in their order, its answer, and what its output then holds.
+-- The calls on monomials: each one's checks in their order, its answer, and what its output then holds. W is the greatest width, E the
+-- greatest exponent.
 --   order_of o         == a comparison's outcome as the code's Order
 --   differ a n        == check 3: a has another width than n
 --   at_most E m        == each exponent of m is at most E
@@ -11,7 +12,6 @@ use Rattle.std.proofs.Math.Option.{Option, none, some}
 use Prim.Native.Nat.{ℕ, Ordering}
 use Rattle.laws.specs.Monomial.{degree, exponent, divides, product, quotient, lcm, gcd, coprime, power}
 use Rattle.laws.specs.Order.{lex, degrevlex}
-use Rattle.monomials.specs.Limits.{max_exponent}
 use Rattle.monomials.specs.Refusal.{Check, refusal, after, too_wide}
 use Rattle.monomials.specs.declared.refusal.Refusal.{Refusal}
 use Rattle.monomials.specs.declared.refusal.Refusal.TheVariants.{Cells, Place, Exponent, Division}
@@ -58,79 +58,79 @@ abbrev pub at_most : ℕ → List ℕ → Bool
 at_most E [] = true
 at_most E (x ∷ m) = leb x E && at_most E m
 
-abbrev pub pair_checks : List ℕ → List ℕ → List Check
-pair_checks a b = too_wide (length a) ∷ differ b (length a) ∷ []
+abbrev pub pair_checks : ℕ → List ℕ → List ℕ → List Check
+pair_checks W a b = too_wide W (length a) ∷ differ b (length a) ∷ []
 
-abbrev pub write_checks : List ℕ → List ℕ → List ℕ → List Check
-write_checks a b out = pair_checks a b ++ differ out (length a) ∷ []
+abbrev pub write_checks : ℕ → List ℕ → List ℕ → List ℕ → List Check
+write_checks W a b out = pair_checks W a b ++ differ out (length a) ∷ []
 
 -- degree: 1
 
-abbrev pub degree_answer : List ℕ → NumberAnswer
-degree_answer a = number_answer (refusal (too_wide (length a) ∷ [])) (degree a)
+abbrev pub degree_answer : ℕ → List ℕ → NumberAnswer
+degree_answer W a = number_answer (refusal (too_wide W (length a) ∷ [])) (degree a)
 
 -- one variable's exponent: 1, 4
 
-abbrev pub exponent_answer : List ℕ → ℕ → NumberAnswer
-exponent_answer a v = number_answer (refusal (too_wide (length a) ∷ (leb (length a) v, Place) ∷ [])) (exponent a v)
+abbrev pub exponent_answer : ℕ → List ℕ → ℕ → NumberAnswer
+exponent_answer W a v = number_answer (refusal (too_wide W (length a) ∷ (leb (length a) v, Place) ∷ [])) (exponent a v)
 
 -- one variable's power written out: 1, 3, 4
 
-abbrev pub power_checks : ℕ → ℕ → List ℕ → List Check
-power_checks n v out = too_wide n ∷ differ out n ∷ (leb n v, Place) ∷ []
+abbrev pub power_checks : ℕ → ℕ → ℕ → List ℕ → List Check
+power_checks W n v out = too_wide W n ∷ differ out n ∷ (leb n v, Place) ∷ []
 
-abbrev pub power_answer : ℕ → ℕ → List ℕ → WriteAnswer
-power_answer n v out = write_answer (refusal (power_checks n v out))
+abbrev pub power_answer : ℕ → ℕ → ℕ → List ℕ → WriteAnswer
+power_answer W n v out = write_answer (refusal (power_checks W n v out))
 
-abbrev pub power_cells : ℕ → ℕ → ℕ → List ℕ → List ℕ
-power_cells n v x out = after (refusal (power_checks n v out)) (power n v x) out
+abbrev pub power_cells : ℕ → ℕ → ℕ → ℕ → List ℕ → List ℕ
+power_cells W n v x out = after (refusal (power_checks W n v out)) (power n v x) out
 
 -- product: 1, 3, 5
 
-abbrev pub product_checks : List ℕ → List ℕ → List ℕ → List Check
-product_checks a b out = write_checks a b out ++ (not (at_most max_exponent (product a b)), Exponent) ∷ []
+abbrev pub product_checks : ℕ → ℕ → List ℕ → List ℕ → List ℕ → List Check
+product_checks W E a b out = write_checks W a b out ++ (not (at_most E (product a b)), Exponent) ∷ []
 
-abbrev pub product_answer : List ℕ → List ℕ → List ℕ → WriteAnswer
-product_answer a b out = write_answer (refusal (product_checks a b out))
+abbrev pub product_answer : ℕ → ℕ → List ℕ → List ℕ → List ℕ → WriteAnswer
+product_answer W E a b out = write_answer (refusal (product_checks W E a b out))
 
-abbrev pub product_cells : List ℕ → List ℕ → List ℕ → List ℕ
-product_cells a b out = after (refusal (product_checks a b out)) (product a b) out
+abbrev pub product_cells : ℕ → ℕ → List ℕ → List ℕ → List ℕ → List ℕ
+product_cells W E a b out = after (refusal (product_checks W E a b out)) (product a b) out
 
 -- quotient: 1, 3, 6
 
-abbrev pub quotient_checks : List ℕ → List ℕ → List ℕ → List Check
-quotient_checks a b out = write_checks a b out ++ (not (divides b a), Division) ∷ []
+abbrev pub quotient_checks : ℕ → List ℕ → List ℕ → List ℕ → List Check
+quotient_checks W a b out = write_checks W a b out ++ (not (divides b a), Division) ∷ []
 
-abbrev pub quotient_answer : List ℕ → List ℕ → List ℕ → WriteAnswer
-quotient_answer a b out = write_answer (refusal (quotient_checks a b out))
+abbrev pub quotient_answer : ℕ → List ℕ → List ℕ → List ℕ → WriteAnswer
+quotient_answer W a b out = write_answer (refusal (quotient_checks W a b out))
 
-abbrev pub quotient_cells : List ℕ → List ℕ → List ℕ → List ℕ
-quotient_cells a b out = after (refusal (quotient_checks a b out)) (quotient a b) out
+abbrev pub quotient_cells : ℕ → List ℕ → List ℕ → List ℕ → List ℕ
+quotient_cells W a b out = after (refusal (quotient_checks W a b out)) (quotient a b) out
 
 -- lcm and gcd: 1, 3
 
-abbrev pub lcm_answer : List ℕ → List ℕ → List ℕ → WriteAnswer
-lcm_answer a b out = write_answer (refusal (write_checks a b out))
+abbrev pub lcm_answer : ℕ → List ℕ → List ℕ → List ℕ → WriteAnswer
+lcm_answer W a b out = write_answer (refusal (write_checks W a b out))
 
-abbrev pub lcm_cells : List ℕ → List ℕ → List ℕ → List ℕ
-lcm_cells a b out = after (refusal (write_checks a b out)) (lcm a b) out
+abbrev pub lcm_cells : ℕ → List ℕ → List ℕ → List ℕ → List ℕ
+lcm_cells W a b out = after (refusal (write_checks W a b out)) (lcm a b) out
 
-abbrev pub gcd_answer : List ℕ → List ℕ → List ℕ → WriteAnswer
-gcd_answer a b out = write_answer (refusal (write_checks a b out))
+abbrev pub gcd_answer : ℕ → List ℕ → List ℕ → List ℕ → WriteAnswer
+gcd_answer W a b out = write_answer (refusal (write_checks W a b out))
 
-abbrev pub gcd_cells : List ℕ → List ℕ → List ℕ → List ℕ
-gcd_cells a b out = after (refusal (write_checks a b out)) (gcd a b) out
+abbrev pub gcd_cells : ℕ → List ℕ → List ℕ → List ℕ → List ℕ
+gcd_cells W a b out = after (refusal (write_checks W a b out)) (gcd a b) out
 
 -- divides, coprime and the two orders: 1, 3
 
-abbrev pub divides_answer : List ℕ → List ℕ → TestAnswer
-divides_answer a b = test_answer (refusal (pair_checks a b)) (divides a b)
+abbrev pub divides_answer : ℕ → List ℕ → List ℕ → TestAnswer
+divides_answer W a b = test_answer (refusal (pair_checks W a b)) (divides a b)
 
-abbrev pub coprime_answer : List ℕ → List ℕ → TestAnswer
-coprime_answer a b = test_answer (refusal (pair_checks a b)) (coprime a b)
+abbrev pub coprime_answer : ℕ → List ℕ → List ℕ → TestAnswer
+coprime_answer W a b = test_answer (refusal (pair_checks W a b)) (coprime a b)
 
-abbrev pub lex_answer : List ℕ → List ℕ → OrderAnswer
-lex_answer a b = order_answer (refusal (pair_checks a b)) (lex a b)
+abbrev pub lex_answer : ℕ → List ℕ → List ℕ → OrderAnswer
+lex_answer W a b = order_answer (refusal (pair_checks W a b)) (lex a b)
 
-abbrev pub degrevlex_answer : List ℕ → List ℕ → OrderAnswer
-degrevlex_answer a b = order_answer (refusal (pair_checks a b)) (degrevlex a b)
+abbrev pub degrevlex_answer : ℕ → List ℕ → List ℕ → OrderAnswer
+degrevlex_answer W a b = order_answer (refusal (pair_checks W a b)) (degrevlex a b)

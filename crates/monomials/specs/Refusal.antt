@@ -2,12 +2,11 @@
 --   number r      == document 01's number of a refusal
 --   Check         == a condition, and the refusal that it asks for
 --   refusal cs    == the first refusal whose condition holds, if any
---   too_wide n     == check 1 of every call: the width n is too great
+--   too_wide W n   == check 1 of every call: the width n is above W
 --   after r y x   == what a lent slice holds: y where nothing was refused, else x, what it held
 -- Assumes nothing.
 use Rattle.std.specs.Prelude.{◌≡◌, refl, Bool, true, false, cond, List, [], ◌∷◌, ℕ, ltb}
 use Rattle.std.proofs.Math.Option.{Option, none, some}
-use Rattle.monomials.specs.Limits.{max_width}
 use Rattle.monomials.specs.declared.refusal.Refusal.{Refusal}
 use Rattle.monomials.specs.declared.refusal.Refusal.TheVariants.{Width, Count, Cells, Place, Exponent, Division, CellRoom, CoefficientRoom, SumRoom, Degree, Value, Record, Dimension, Output, Coefficient}
 
@@ -35,8 +34,8 @@ abbrev pub refusal : List Check → Option Refusal
 refusal [] = none
 refusal (c ∷ cs) = cond c.0 (some c.1) (refusal cs)
 
-abbrev pub too_wide : ℕ → Check
-too_wide n = (ltb max_width n, Width)
+abbrev pub too_wide : ℕ → ℕ → Check
+too_wide W n = (ltb W n, Width)
 
 abbrev pub after : {A : Type 0} → Option Refusal → A → A → A
 after none y x = y

@@ -18,7 +18,7 @@ pub(crate) enum Test {
 }
 
 fn passes(test: Test, x: u16, y: u16) -> bool
-    ensures { result ≡ passes_of test x y }
+    ensures { result ≡ passes_of MAX_EXPONENT test x y }
 {
     match test {
         Test::AtMost => x <= y,
@@ -31,7 +31,7 @@ fn passes(test: Test, x: u16, y: u16) -> bool
 // Whether each variable's exponents pass.
 pub(crate) fn all_cells(test: Test, a: &[u16], b: &[u16]) -> bool
     requires { length b.now ≡ length a.now }
-    ensures { result ≡ all_cells (passes_of test) a.now b.now }
+    ensures { result ≡ all_cells (passes_of MAX_EXPONENT test) a.now b.now }
 {
     let mut i: usize = 0;
     while i < a.len() {

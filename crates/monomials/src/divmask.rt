@@ -2,7 +2,6 @@
 ghost use Rattle.std.specs.Prelude.{◌≡◌, ◌+◌, ◌≤◌, ◌<◌};
 ghost use Rattle.laws.specs.Monomial.{exponent};
 ghost use Rattle.laws.specs.Mask.{bits_each, threshold, mask_bit, word_of, consistent};
-ghost use Rattle.monomials.specs.Limits.{max_width};
 ghost use Rattle.monomials.specs.Mask.{mask_answer, words};
 
 use crate::refusal::{MAX_WIDTH, Refusal};
@@ -28,7 +27,7 @@ pub struct MaskAnswer {
 
 // The mask of a monomial of width n, with thresholds spread up to max_deg. Missing exponents are 0, those past n are ignored.
 pub fn mask(n: usize, max_deg: u16, exps: &[u16]) -> MaskAnswer
-    ensures { result ≡ mask_answer n max_deg exps.now }
+    ensures { result ≡ mask_answer MAX_WIDTH n max_deg exps.now }
 {
     if MAX_WIDTH < n {
         return MaskAnswer {
@@ -52,7 +51,7 @@ pub fn divides_consistent_with(a: DivMask, b: DivMask) -> bool
 
 // The 64 bits from `start` on.
 fn mask_word(n: usize, max_deg: u16, exps: &[u16], start: usize) -> u64
-    requires n_le_max_width { n ≤ max_width }
+    requires n_le_max_width { n ≤ MAX_WIDTH }
     requires start_bound { start ≤ 64 }
     ensures { result ≡ word_of (λ i. mask_bit n max_deg exps.now (start + i)) 64 }
 {
@@ -69,7 +68,7 @@ fn mask_word(n: usize, max_deg: u16, exps: &[u16], start: usize) -> u64
 
 // Bit i of the mask.
 fn mask_bit(n: usize, max_deg: u16, exps: &[u16], i: usize) -> bool
-    requires n_le_max_width { n ≤ max_width }
+    requires n_le_max_width { n ≤ MAX_WIDTH }
     requires i_bound { i < 128 }
     ensures { result ≡ mask_bit n max_deg exps.now i }
 {

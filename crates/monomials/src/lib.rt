@@ -1,6 +1,5 @@
 // Layer 1: monomials, their two orders and divisibility masks. Every call checks its own input and refuses by number.
 mod cells;
 pub mod divmask;
-pub mod list;
 pub mod monomial;
 pub mod refusal;

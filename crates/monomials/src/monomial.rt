@@ -4,13 +4,12 @@ ghost use Rattle.std.specs.Prelude.{◌≡◌, length};
 ghost use Prim.Native.Nat.{◌≤◌, compare};
 ghost use Rattle.laws.specs.Monomial.{degree};
 ghost use Rattle.laws.specs.Order.{lex, revlex, degrevlex};
-ghost use Rattle.monomials.specs.Limits.{max_width};
 ghost use Rattle.monomials.specs.Refusal.{refusal, after};
 ghost use Rattle.monomials.specs.Cells.{compared_by, passed, width_checks, tested_answer, tested_cells, passes_of, combined_of, all_cells, zip_cells};
 ghost use Rattle.monomials.specs.Monomial.{order_of, write_answer, test_answer, order_answer, pair_checks, write_checks, degree_answer, exponent_answer, power_answer, product_answer, quotient_answer, lcm_answer, gcd_answer, divides_answer, coprime_answer, lex_answer, degrevlex_answer, power_cells, product_cells, quotient_cells, lcm_cells, gcd_cells};
 
 use crate::cells::{Combine, Test, all_cells, wide, wipe, write_cells};
-use crate::refusal::{MAX_WIDTH, Refusal};
+use crate::refusal::{MAX_EXPONENT, MAX_WIDTH, Refusal};
 
 // A number, or why there is none.
 #[derive(Drop)]
@@ -69,7 +68,7 @@ pub struct OrderAnswer {
 
 // The degree of a.
 pub fn total_degree(a: &[u16]) -> NumberAnswer
-    ensures { result ≡ degree_answer a.now }
+    ensures { result ≡ degree_answer MAX_WIDTH a.now }
 {
     if MAX_WIDTH < a.len() {
         return NumberAnswer {
@@ -83,7 +82,7 @@ pub fn total_degree(a: &[u16]) -> NumberAnswer
 
 // The exponent of variable v in a.
 pub fn exponent(a: &[u16], v: usize) -> NumberAnswer
-    ensures { result ≡ exponent_answer a.now v }
+    ensures { result ≡ exponent_answer MAX_WIDTH a.now v }
 {
     if MAX_WIDTH < a.len() {
         return NumberAnswer {
@@ -102,8 +101,8 @@ pub fn exponent(a: &[u16], v: usize) -> NumberAnswer
 
 // Variable v to the x, written out in n variables.
 pub fn power(n: usize, v: usize, x: u16, out: &mut [u16]) -> WriteAnswer
-    ensures value { result ≡ power_answer n v out.old }
-    ensures out_after { out.new ≡ power_cells n v x out.old }
+    ensures value { result ≡ power_answer MAX_WIDTH n v out.old }
+    ensures out_after { out.new ≡ power_cells MAX_WIDTH n v x out.old }
 {
     if MAX_WIDTH < n {
         return refused(Refusal::Width);
@@ -123,16 +122,16 @@ pub fn power(n: usize, v: usize, x: u16, out: &mut [u16]) -> WriteAnswer
 
 // The product of a and b.
 pub fn product(a: &[u16], b: &[u16], out: &mut [u16]) -> WriteAnswer
-    ensures value { result ≡ product_answer a.now b.now out.old }
-    ensures out_after { out.new ≡ product_cells a.now b.now out.old }
+    ensures value { result ≡ product_answer MAX_WIDTH MAX_EXPONENT a.now b.now out.old }
+    ensures out_after { out.new ≡ product_cells MAX_WIDTH MAX_EXPONENT a.now b.now out.old }
 {
     write_if(Test::SumFits, Refusal::Exponent, Combine::Sum, a, b, out)
 }
 
 // a divided by b.
 pub fn quotient(a: &[u16], b: &[u16], out: &mut [u16]) -> WriteAnswer
-    ensures value { result ≡ quotient_answer a.now b.now out.old }
-    ensures out_after { out.new ≡ quotient_cells a.now b.now out.old }
+    ensures value { result ≡ quotient_answer MAX_WIDTH a.now b.now out.old }
+    ensures out_after { out.new ≡ quotient_cells MAX_WIDTH a.now b.now out.old }
 {
     write_if(
         Test::AtLeast,
@@ -146,44 +145,44 @@ pub fn quotient(a: &[u16], b: &[u16], out: &mut [u16]) -> WriteAnswer
 
 // The lcm of a and b.
 pub fn lcm(a: &[u16], b: &[u16], out: &mut [u16]) -> WriteAnswer
-    ensures value { result ≡ lcm_answer a.now b.now out.old }
-    ensures out_after { out.new ≡ lcm_cells a.now b.now out.old }
+    ensures value { result ≡ lcm_answer MAX_WIDTH a.now b.now out.old }
+    ensures out_after { out.new ≡ lcm_cells MAX_WIDTH a.now b.now out.old }
 {
     write_pair(Combine::Greater, a, b, out)
 }
 
 // The gcd of a and b.
 pub fn gcd(a: &[u16], b: &[u16], out: &mut [u16]) -> WriteAnswer
-    ensures value { result ≡ gcd_answer a.now b.now out.old }
-    ensures out_after { out.new ≡ gcd_cells a.now b.now out.old }
+    ensures value { result ≡ gcd_answer MAX_WIDTH a.now b.now out.old }
+    ensures out_after { out.new ≡ gcd_cells MAX_WIDTH a.now b.now out.old }
 {
     write_pair(Combine::Smaller, a, b, out)
 }
 
 // Whether a divides b.
 pub fn divides(a: &[u16], b: &[u16]) -> TestAnswer
-    ensures { result ≡ divides_answer a.now b.now }
+    ensures { result ≡ divides_answer MAX_WIDTH a.now b.now }
 {
     test_pair(Test::AtMost, a, b)
 }
 
 // Whether no variable stands in both.
 pub fn is_coprime(a: &[u16], b: &[u16]) -> TestAnswer
-    ensures { result ≡ coprime_answer a.now b.now }
+    ensures { result ≡ coprime_answer MAX_WIDTH a.now b.now }
 {
     test_pair(Test::Apart, a, b)
 }
 
 // a against b by Lex.
 pub fn cmp_lex(a: &[u16], b: &[u16]) -> OrderAnswer
-    ensures { result ≡ lex_answer a.now b.now }
+    ensures { result ≡ lex_answer MAX_WIDTH a.now b.now }
 {
     cmp_pair(MonomialOrder::Lex, a, b)
 }
 
 // a against b by DegRevLex.
 pub fn cmp_degrevlex(a: &[u16], b: &[u16]) -> OrderAnswer
-    ensures { result ≡ degrevlex_answer a.now b.now }
+    ensures { result ≡ degrevlex_answer MAX_WIDTH a.now b.now }
 {
     cmp_pair(MonomialOrder::DegRevLex, a, b)
 }
@@ -198,7 +197,7 @@ fn refused(refusal: Refusal) -> WriteAnswer
 
 // Whether a and b, and an output of n cells, have one width that is allowed.
 fn one_width(a: &[u16], b: &[u16], n: usize) -> bool
-    ensures { result ≡ passed (width_checks a.now b.now n) }
+    ensures { result ≡ passed (width_checks MAX_WIDTH a.now b.now n) }
 {
     if MAX_WIDTH < a.len() {
         return false;
@@ -218,8 +217,8 @@ fn write_if(
     b: &[u16],
     out: &mut [u16],
 ) -> WriteAnswer
-    ensures value { result ≡ tested_answer test refusal a.now b.now out.old }
-    ensures out_after { out.new ≡ tested_cells test refusal op a.now b.now out.old }
+    ensures value { result ≡ tested_answer MAX_WIDTH MAX_EXPONENT test refusal a.now b.now out.old }
+    ensures out_after { out.new ≡ tested_cells MAX_WIDTH MAX_EXPONENT test refusal op a.now b.now out.old }
 {
     if one_width(a, b, out.len()) && !all_cells(test, a, b) {
         return refused(refusal);
@@ -229,8 +228,8 @@ fn write_if(
 
 // Writes what is made of a and b, if the three have one width.
 fn write_pair(op: Combine, a: &[u16], b: &[u16], out: &mut [u16]) -> WriteAnswer
-    ensures value { result ≡ write_answer (refusal (write_checks a.now b.now out.old)) }
-    ensures out_after { out.new ≡ after (refusal (write_checks a.now b.now out.old)) (zip_cells (combined_of op) a.now b.now) out.old }
+    ensures value { result ≡ write_answer (refusal (write_checks MAX_WIDTH a.now b.now out.old)) }
+    ensures out_after { out.new ≡ after (refusal (write_checks MAX_WIDTH a.now b.now out.old)) (zip_cells (combined_of op) a.now b.now) out.old }
 {
     if MAX_WIDTH < a.len() {
         return refused(Refusal::Width);
@@ -249,7 +248,7 @@ fn write_pair(op: Combine, a: &[u16], b: &[u16], out: &mut [u16]) -> WriteAnswer
 
 // Whether each variable's exponents pass, if the two have one width.
 fn test_pair(test: Test, a: &[u16], b: &[u16]) -> TestAnswer
-    ensures { result ≡ test_answer (refusal (pair_checks a.now b.now)) (all_cells (passes_of test) a.now b.now) }
+    ensures { result ≡ test_answer (refusal (pair_checks MAX_WIDTH a.now b.now)) (all_cells (passes_of MAX_EXPONENT test) a.now b.now) }
 {
     if MAX_WIDTH < a.len() {
         return TestAnswer {
@@ -275,7 +274,7 @@ enum MonomialOrder {
 
 // How a compares with b, if the two have one width.
 fn cmp_pair(by: MonomialOrder, a: &[u16], b: &[u16]) -> OrderAnswer
-    ensures { result ≡ order_answer (refusal (pair_checks a.now b.now)) (compared_by by a.now b.now) }
+    ensures { result ≡ order_answer (refusal (pair_checks MAX_WIDTH a.now b.now)) (compared_by by a.now b.now) }
 {
     if MAX_WIDTH < a.len() {
         return OrderAnswer {
@@ -299,7 +298,7 @@ fn cmp_pair(by: MonomialOrder, a: &[u16], b: &[u16]) -> OrderAnswer
 
 // The sum of the exponents.
 fn degree_of(a: &[u16]) -> u64
-    requires { length a.now ≤ max_width }
+    requires { length a.now ≤ MAX_WIDTH }
     ensures { result ≡ degree a.now }
 {
     let mut sum: u64 = 0;
@@ -338,7 +337,7 @@ fn lex_order(a: &[u16], b: &[u16]) -> Order
 
 // By the degrees, or else by the last variable in which they differ.
 fn degrevlex_order(a: &[u16], b: &[u16]) -> Order
-    requires a_len_bound { length a.now ≤ max_width }
+    requires a_len_bound { length a.now ≤ MAX_WIDTH }
     requires b_len { length b.now ≡ length a.now }
     ensures { result ≡ order_of (degrevlex a.now b.now) }
 {

@@ -16,13 +16,11 @@
 use Rattle.std.proofs.Common.{◌≡◌, ℕ, zero, suc, ◌+◌, ◌-◌, ◌*◌, ◌/◌, ◌%◌, ◌<◌, ◌≤◌, max, Bool, true, false, cond, ◌||◌, eqb, ◌⊎◌, List, [], ◌∷◌, ◌++◌, length, get_or, drop, sym, refl, ap, ◌∙◌, subst, ap₂, inl, inr, append-nil, mod-lt, mod-eq_of_lt, suc-mul, div-lt_iff_lt-mul, add-mul, mul-zero, div-add-mod', le-div_iff_mul-le, zero-mul, add-one, arith, w64, Fits, eq-eqb, ne_eqb}
 use native.Mathlib.Nat.{div-eq_of_lt, add-div_right, add-mod_right, add-mul-div_right, add-mul-mod_self_right}
 use Rattle.laws.specs.Ideal.{listed}
-use Rattle.laws.specs.Room.{cells_asked, column, coefficients_asked, distinct, holds, pairs, greatest}
+use Rattle.laws.specs.Room.{cells_asked, column, coefficients_asked, distinct, holds, pairs}
 use Rattle.laws.specs.Sums.{sum_below}
+use Rattle.laws.proofs.Asked.{Lists, Measured, asked_is, asked_small, at_first, at_second, both, both_within, cells_small, columns, distinct_next, greatest, greatest_end, greatest_next, holds_end, holds_next, lcm_degree, pairs_small, sum_below_ext, sum_below_next}
+use Rattle.laws.proofs.Columns.{greatest_held, held_most}
 use Rattle.laws.proofs.Ideal.{listed_count, listed_within}
-use Rattle.laws.proofs.Room.{distinct_next, greatest_end, greatest_next, holds_end, holds_next, lcm_degree, greatest_held, held_most}
-use Rattle.laws.proofs.Sums.{sum_below_ext, sum_below_next}
-use Rattle.passes.specs.Sizes.{Lists, Measured, both}
-use Rattle.passes.proofs.Sizes.{cells_are, asked_small, at_first, at_second, both_within, cells_small, columns, pairs_small}
 
 abbrev pub from : ℕ → List (List ℕ) → ℕ → List ℕ
 from n L p = drop (p / n) (column L (p % n))
@@ -358,7 +356,7 @@ module _ {n s t : ℕ} {xs ys : List ℕ} (l : Lists n s xs t ys) where
         omega arith
 
     pub product_is : (s + t) * n * (s + t + p) ≡ cells_asked n (both n s xs t ys)
-    product_is = rw e (cells_are l)
+    product_is = rw e (asked_is l)
 
 -- what both lists add
 pub pairs_fit_both : (p q : ℕ) → p ≤ 4096 * 4096 → q ≤ 4096 * 4096 → Fits w64 (p + q)

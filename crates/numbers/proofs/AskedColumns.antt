@@ -10,12 +10,8 @@ use native.Mathlib.Nat.{div-eq_of_lt, add-mod_right}
 use Rattle.laws.specs.Monomial.{degree}
 use Rattle.laws.specs.Room.{column, coefficients_asked, distinct, holds, pairs}
 use Rattle.laws.specs.Sums.{sum_below}
-use Rattle.laws.proofs.Room.{distinct_end, distinct_most, distinct_next}
-use Rattle.laws.proofs.Sums.{sum_below_next}
-use Rattle.passes.specs.Columns.{GreatestExponents}
-use Rattle.passes.specs.Sizes.{Lists, both}
-use Rattle.passes.proofs.Columns.{degree_greatest, distinct_at}
-use Rattle.passes.proofs.Sizes.{coefficients_are, columns}
+use Rattle.laws.proofs.Asked.{Lists, both, coefficients_are, columns, distinct_end, distinct_most, distinct_next, sum_below_next}
+use Rattle.laws.proofs.Columns.{Greatest, degree_greatest, distinct_at}
 use Rattle.numbers.proofs.AskedCells.{Found, behind, cell_at, cells_below, found_held, found_new, from, from_next, row_below, row_past}
 
 -- one list alone, cell by cell
@@ -84,7 +80,7 @@ module _ {n s t : ℕ} {xs ys : List ℕ} (l : Lists n s xs t ys) (v : ℕ) (g :
   pub column_next : Fits w64 (v + 1)
   column_next = omega (arith, l.width)
 
-  module _ {us : List ℕ} (k : GreatestExponents n (both n s xs t ys) us) where
+  module _ {us : List ℕ} (k : Greatest n (both n s xs t ys) us) where
     pub column_in : v < length us
     column_in = omega (arith, k.len)
 
@@ -108,5 +104,5 @@ summed_all n L sum v q g =
     q.1 ∙ ap (λ (w : ℕ). sum_below w (λ u. distinct (column L u))) f
 
 -- the degree of the greatest exponents
-pub degree_known : {n s t : ℕ} {xs ys us : List ℕ} → Lists n s xs t ys → GreatestExponents n (both n s xs t ys) us → (d : ℕ) → (d ≡ degree us) × (d ≤ 4294901760) → (d + 1 ≡ coefficients_asked (both n s xs t ys)) × (d ≤ 8192 * 4096 * 65535)
+pub degree_known : {n s t : ℕ} {xs ys us : List ℕ} → Lists n s xs t ys → Greatest n (both n s xs t ys) us → (d : ℕ) → (d ≡ degree us) × (d ≤ 4294901760) → (d + 1 ≡ coefficients_asked (both n s xs t ys)) × (d ≤ 8192 * 4096 * 65535)
 degree_known l k d e = (ap (λ (q : ℕ). q + 1) (e.0 ∙ degree_greatest k) ∙ coefficients_are l, omega (arith, e.1))

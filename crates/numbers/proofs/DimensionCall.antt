@@ -21,22 +21,19 @@ use Rattle.laws.proofs.Coefficients.{coefficient_padded}
 use Rattle.laws.proofs.Sums.{sums_ext, residue_sum}
 use Rattle.laws.proofs.Word.{residue_lt}
 use Rattle.laws.proofs.Dimension.{dimension_unit, dimension_no_variables, hf_residue, dimension_sum}
-use Rattle.monomials.specs.Limits.{max_width, max_count, max_degree}
-use Rattle.monomials.specs.Refusal.{refusal, after, too_wide}
+use Rattle.monomials.specs.Refusal.{Check, refusal, after, too_wide}
 use Rattle.monomials.specs.declared.refusal.Refusal.{Refusal}
 use Rattle.monomials.specs.declared.refusal.Refusal.TheVariants.{Width, Count, Cells as CellsOut, CellRoom, CoefficientRoom, SumRoom}
-use Rattle.monomials.proofs.Refusals.{refusal_first, refusal_none, refusal_then}
-use Rattle.words.specs.Wide.{wide, wide_of}
-use Rattle.monomials.specs.List.{too_many, not_cells, list_checks}
-use Rattle.numbers.specs.Numerator.{wiped}
+use Rattle.numbers.specs.Wide.{wide, wide_of}
+use Rattle.numbers.specs.Numerator.{wiped, too_many, not_cells, list_checks}
 use Rattle.numbers.specs.Dimension.{dimension_is, at_once, no_dimension, bound_checks, room_checks, dimension_checks, dimension_answer, dimension_room, dimension_first, dimension_second, dimension_sums}
 use Rattle.numbers.specs.DimensionParts.{Bounded, Cells as CellsOf, checked_is, bound_answer, list_answer}
-use Rattle.words.specs.declared.wide.Wide.{Wide}
+use Rattle.numbers.specs.declared.wide.Wide.{Wide}
 use Rattle.numbers.specs.declared.powers.Checked.{Checked}
 use Rattle.numbers.specs.declared.dimension.DimensionOutcome.{DimensionOutcome}
 use Rattle.numbers.specs.declared.dimension.DimensionAnswer.{DimensionAnswer}
 use Rattle.numbers.proofs.ToLaws.{either_short, neither}
-use Rattle.words.proofs.TwoWords.{wide_mod}
+use Rattle.numbers.proofs.TwoWords.{wide_mod}
 
 -- the checks 13 and 11
 
@@ -44,23 +41,23 @@ no_other : (a b : Bool) → (not a || b) ≡ false → (a ≡ true) × (b ≡ fa
 no_other true b e = (refl, e)
 no_other false b e = absurd (false≢true (sym e))
 
-module _ (n : ℕ) (L : List (List ℕ)) where
+module _ (M n : ℕ) (L : List (List ℕ)) where
   -- a list that passes 13
-  pub has_dimension_lem : no_dimension n L ≡ false → (finite n L ≡ true) × (degree_bound n L ≤ max_degree)
+  pub has_dimension_lem : no_dimension M n L ≡ false → (finite n L ≡ true) × (degree_bound n L ≤ M)
   has_dimension_lem e =
-      let (f, l) = no_other (finite n L) (ltb max_degree (degree_bound n L)) e in
-      (f, ltb-false max_degree (degree_bound n L) l)
+      let (f, l) = no_other (finite n L) (ltb M (degree_bound n L)) e in
+      (f, ltb-false M (degree_bound n L) l)
 
   -- a list that passes both
-  pub bounded : (d : ℕ) → unit_in L ≡ false → refusal (bound_checks n L) ≡ none → d ≡ degree_bound n L → Bounded n L d
-  bounded d u e k = go (no_dimension n L) (leb (2 ^ 127) (powers_product n L)) refl refl
+  pub bounded : (d : ℕ) → unit_in L ≡ false → M ≤ 65536 → refusal (bound_checks M n L) ≡ none → d ≡ degree_bound n L → Bounded n L d
+  bounded d u m e k = go (no_dimension M n L) (leb (2 ^ 127) (powers_product n L)) refl refl
     where
-      go : (s t : Bool) → no_dimension n L ≡ s → leb (2 ^ 127) (powers_product n L) ≡ t → Bounded n L d
+      go : (s t : Bool) → no_dimension M n L ≡ s → leb (2 ^ 127) (powers_product n L) ≡ t → Bounded n L d
       go true t h g = let z : ◌≡◌ {A = ℕ} 0 1 = cc (rw h at e) in absurd (omega arith)
       go false true h g = let z : ◌≡◌ {A = ℕ} 0 1 = cc (rw (h, g) at e) in absurd (omega arith)
       go false false h g =
           let (f, l) = has_dimension_lem h in
-          record { plain = u; powers = f; bound = k; small = rw k l; product = leb-false (2 ^ 127) (powers_product n L) g }
+          record { plain = u; powers = f; bound = k; small = rw k (le_trans l m); product = leb-false (2 ^ 127) (powers_product n L) g }
 
 -- what the list decides, read back
 
@@ -171,6 +168,31 @@ module _ (n : ℕ) (L : List (List ℕ)) (room : List ℕ) (p q : List ℤ) (sum
 
 -- the whole call
 
+-- the first checks decide, or the others
+refusal_first : (xs ys : List Check) (r : Refusal) → refusal xs ≡ some r → refusal (xs ++ ys) ≡ some r
+refusal_first [] ys r e = let z : ◌≡◌ {A = ℕ} 0 1 = cc in absurd (omega arith)
+refusal_first (x ∷ xs) ys r e = go x.0 refl (refusal_first xs ys r)
+  where
+    go : (t : Bool) → x.0 ≡ t → (refusal xs ≡ some r → refusal (xs ++ ys) ≡ some r) → refusal ((x ∷ xs) ++ ys) ≡ some r
+    go true h f = rw h (rw h at e)
+    go false h f = rw h (f (rw h at e))
+
+refusal_then : (xs ys : List Check) → refusal xs ≡ none → refusal (xs ++ ys) ≡ refusal ys
+refusal_then [] ys e = refl
+refusal_then (x ∷ xs) ys e = go x.0 refl (refusal_then xs ys)
+  where
+    go : (t : Bool) → x.0 ≡ t → (refusal xs ≡ none → refusal (xs ++ ys) ≡ refusal ys) → refusal ((x ∷ xs) ++ ys) ≡ refusal ys
+    go true h f = let z : ◌≡◌ {A = ℕ} 0 1 = cc (rw h at e) in absurd (omega arith)
+    go false h f = rw h (f (rw h at e))
+
+-- no check refuses
+pub refusal_none : (x : Check) (xs : List Check) → refusal (x ∷ xs) ≡ none → (x.0 ≡ false) × (refusal xs ≡ none)
+refusal_none x xs e = go x.0 refl
+  where
+    go : (t : Bool) → x.0 ≡ t → (t ≡ false) × (refusal xs ≡ none)
+    go true h = let z : ◌≡◌ {A = ℕ} 0 1 = cc (rw h at e) in absurd (omega arith)
+    go false h = (refl, rw h at e)
+
 -- without variables
 no_variables : (n s : ℕ) (cells : List ℕ) → n ≡ 0 → unit_in (listed n s cells) ≡ false → length cells ≡ s * n → dimension n (listed n s cells) ≡ 1
 no_variables zero s cells z u f = dimension_no_variables (listed 0 s cells) u (listed_width 0 s cells (omega arith))
@@ -178,81 +200,81 @@ no_variables (suc n) s cells z u f = absurd (omega arith)
 
 -- what the list alone decides
 
-module _ (n s : ℕ) (cells : List ℕ) where
-  pub decides_width : max_width < n → Checked.Refused Width ≡ list_answer n s cells
-  decides_width h = rw (lt-ltb max_width n h)
+module _ (W C M n s : ℕ) (cells : List ℕ) where
+  pub decides_width : W < n → Checked.Refused Width ≡ list_answer W C M n s cells
+  decides_width h = rw (lt-ltb W n h)
 
-  pub decides_count : n ≤ max_width → max_count < s → Checked.Refused Count ≡ list_answer n s cells
-  decides_count h g = rw (le-ltb max_width n h, lt-ltb max_count s g)
+  pub decides_count : n ≤ W → C < s → Checked.Refused Count ≡ list_answer W C M n s cells
+  decides_count h g = rw (le-ltb W n h, lt-ltb C s g)
 
-  pub decides_cells : n ≤ max_width → s ≤ max_count → length cells ≢ s * n → Checked.Refused CellsOut ≡ list_answer n s cells
-  decides_cells h g f = rw (le-ltb max_width n h, le-ltb max_count s g, ne_eqb (length cells) (s * n) f)
+  pub decides_cells : n ≤ W → s ≤ C → length cells ≢ s * n → Checked.Refused CellsOut ≡ list_answer W C M n s cells
+  decides_cells h g f = rw (le-ltb W n h, le-ltb C s g, ne_eqb (length cells) (s * n) f)
 
-  module _ (h : n ≤ max_width) (g : s ≤ max_count) (f : length cells ≡ s * n) where
-    pub decides_unit : unit_in (listed n s cells) ≡ true → Checked.Known (wide 0) ≡ list_answer n s cells
+  module _ (h : n ≤ W) (g : s ≤ C) (f : length cells ≡ s * n) where
+    pub decides_unit : unit_in (listed n s cells) ≡ true → Checked.Known (wide 0) ≡ list_answer W C M n s cells
     decides_unit u =
-        rw (le-ltb max_width n h, le-ltb max_count s g, eq-eqb (length cells) (s * n) f, u) (ap (λ (x : ℕ). Checked.Known (wide x)) (sym (dimension_unit n (listed n s cells) u)))
+        rw (le-ltb W n h, le-ltb C s g, eq-eqb (length cells) (s * n) f, u) (ap (λ (x : ℕ). Checked.Known (wide x)) (sym (dimension_unit n (listed n s cells) u)))
 
-    pub decides_one : unit_in (listed n s cells) ≡ false → n ≡ 0 → Checked.Known (wide 1) ≡ list_answer n s cells
+    pub decides_one : unit_in (listed n s cells) ≡ false → n ≡ 0 → Checked.Known (wide 1) ≡ list_answer W C M n s cells
     decides_one u z =
-        rw (le-ltb max_width n h, le-ltb max_count s g, eq-eqb (length cells) (s * n) f, u, eq-eqb n 0 z) (ap (λ (x : ℕ). Checked.Known (wide x)) (sym (no_variables n s cells z u f)))
+        rw (le-ltb W n h, le-ltb C s g, eq-eqb (length cells) (s * n) f, u, eq-eqb n 0 z) (ap (λ (x : ℕ). Checked.Known (wide x)) (sym (no_variables n s cells z u f)))
 
-    pub decides_bound : unit_in (listed n s cells) ≡ false → n ≢ 0 → bound_answer n (listed n s cells) ≡ list_answer n s cells
-    decides_bound u z = rw (le-ltb max_width n h, le-ltb max_count s g, eq-eqb (length cells) (s * n) f, u, ne_eqb n 0 z)
+    pub decides_bound : unit_in (listed n s cells) ≡ false → n ≢ 0 → bound_answer M n (listed n s cells) ≡ list_answer W C M n s cells
+    decides_bound u z = rw (le-ltb W n h, le-ltb C s g, eq-eqb (length cells) (s * n) f, u, ne_eqb n 0 z)
 
   -- the checks that it passes
   abbrev pub decides : Option Refusal
-  decides = refusal (list_checks n s cells ++ cond (at_once n (listed n s cells)) [] (bound_checks n (listed n s cells)))
+  decides = refusal (list_checks W C n s cells ++ cond (at_once n (listed n s cells)) [] (bound_checks M n (listed n s cells)))
 
   module _ (e : decides ≡ none) where
-    pub is_list_lem : (n ≤ max_width) × (s ≤ max_count) × (length cells ≡ s * n)
+    pub is_list_lem : (n ≤ W) × (s ≤ C) × (length cells ≡ s * n)
     is_list_lem =
-        let (a, b) = refusal_none (too_wide n) (too_many s ∷ not_cells n s cells ∷ cond (at_once n (listed n s cells)) [] (bound_checks n (listed n s cells))) e in
-        let (c, d) = refusal_none (too_many s) (not_cells n s cells ∷ cond (at_once n (listed n s cells)) [] (bound_checks n (listed n s cells))) b in
-        let (i, j) = refusal_none (not_cells n s cells) (cond (at_once n (listed n s cells)) [] (bound_checks n (listed n s cells))) d in
-        (ltb-false max_width n a, ltb-false max_count s c, eqb-true (length cells) (s * n) (not-false (eqb (length cells) (s * n)) i))
+        let (a, b) = refusal_none (too_wide W n) (too_many C s ∷ not_cells n s cells ∷ cond (at_once n (listed n s cells)) [] (bound_checks M n (listed n s cells))) e in
+        let (c, d) = refusal_none (too_many C s) (not_cells n s cells ∷ cond (at_once n (listed n s cells)) [] (bound_checks M n (listed n s cells))) b in
+        let (i, j) = refusal_none (not_cells n s cells) (cond (at_once n (listed n s cells)) [] (bound_checks M n (listed n s cells))) d in
+        (ltb-false W n a, ltb-false C s c, eqb-true (length cells) (s * n) (not-false (eqb (length cells) (s * n)) i))
 
     pub is_plain : at_once n (listed n s cells) ≡ false → unit_in (listed n s cells) ≡ false
     is_plain o = (neither (unit_in (listed n s cells)) (eqb n 0) o).0
 
-    pub passes_bound : at_once n (listed n s cells) ≡ false → refusal (bound_checks n (listed n s cells)) ≡ none
+    pub passes_bound : at_once n (listed n s cells) ≡ false → refusal (bound_checks M n (listed n s cells)) ≡ none
     passes_bound o =
         let (a, b, c) = is_list_lem in
-        rw (le-ltb max_width n a, le-ltb max_count s b, eq-eqb (length cells) (s * n) c, o) at e
+        rw (le-ltb W n a, le-ltb C s b, eq-eqb (length cells) (s * n) c, o) at e
 
 -- a list whose degree bound is d
 pub record Found (n s : ℕ) (cells : List ℕ) (d : ℕ) : Type 0 where
-  pub none : decides n s cells ≡ none
+  pub none : decides 255 60 65536 n s cells ≡ none
   pub later : at_once n (listed n s cells) ≡ false
   pub there : CellsOf n s cells
   pub bounded : Bounded n (listed n s cells) d
 
-pub found : (n s : ℕ) (cells : List ℕ) (w : Checked) (d : ℕ) → w ≡ list_answer n s cells → w ≡ Checked.Bound d → Found n s cells d
+pub found : (n s : ℕ) (cells : List ℕ) (w : Checked) (d : ℕ) → w ≡ list_answer 255 60 65536 n s cells → w ≡ Checked.Bound d → Found n s cells d
 found n s cells w d f g =
-    let (e, o, b) = is_bound (decides n s cells) (at_once n (listed n s cells)) (dimension n (listed n s cells)) (degree_bound n (listed n s cells)) d (sym f ∙ g) in
-    let (h, k, l) = is_list_lem n s cells e in
-    record { none = e; later = o; there = record { there = l; width = h; count = k }; bounded = bounded n (listed n s cells) d (is_plain n s cells e o) (passes_bound n s cells e o) b }
+    let (e, o, b) = is_bound (decides 255 60 65536 n s cells) (at_once n (listed n s cells)) (dimension n (listed n s cells)) (degree_bound n (listed n s cells)) d (sym f ∙ g) in
+    let (h, k, l) = is_list_lem 255 60 65536 n s cells e in
+    record { none = e; later = o; there = record { there = l; width = h; count = k }; bounded = bounded 65536 n (listed n s cells) d (is_plain 255 60 65536 n s cells e o) (le_refl 65536) (passes_bound 255 60 65536 n s cells e o) b }
 
-module _ (n s : ℕ) (cells room : List ℕ) (p q : List ℤ) (sums : List ℕ) where
+module _ (W C M n s : ℕ) (cells room : List ℕ) (p q : List ℤ) (sums : List ℕ) where
   abbrev pub Outcome : DimensionAnswer → List ℕ → List ℤ → List ℤ → List ℕ → Type 0
   Outcome r a b d e =
-      (r ≡ dimension_answer n s cells room p q sums)
-      × ((a ≡ dimension_room n s cells room p q sums)
-      × ((b ≡ dimension_first n s cells room p q sums)
-      × ((d ≡ dimension_second n s cells room p q sums)
-      × (e ≡ dimension_sums n s cells room p q sums))))
+      (r ≡ dimension_answer W C M n s cells room p q sums)
+      × ((a ≡ dimension_room W C M n s cells room p q sums)
+      × ((b ≡ dimension_first W C M n s cells room p q sums)
+      × ((d ≡ dimension_second W C M n s cells room p q sums)
+      × (e ≡ dimension_sums W C M n s cells room p q sums))))
 
-  refuses : (x : Refusal) (r : DimensionAnswer) → refusal (dimension_checks n s cells room p q sums) ≡ some x → r ≡ record { outcome = DimensionOutcome.Refused x } → Outcome r room p q sums
+  refuses : (x : Refusal) (r : DimensionAnswer) → refusal (dimension_checks W C M n s cells room p q sums) ≡ some x → r ≡ record { outcome = DimensionOutcome.Refused x } → Outcome r room p q sums
   refuses x r e h = (rw e h, (rw e, (rw e, (rw e, rw e))))
 
-  pub refuses_list : (x : Refusal) (r : DimensionAnswer) → decides n s cells ≡ some x → r ≡ record { outcome = DimensionOutcome.Refused x } → Outcome r room p q sums
+  pub refuses_list : (x : Refusal) (r : DimensionAnswer) → decides W C M n s cells ≡ some x → r ≡ record { outcome = DimensionOutcome.Refused x } → Outcome r room p q sums
   refuses_list x r e = go (at_once n (listed n s cells)) refl
     where
       go : (t : Bool) → at_once n (listed n s cells) ≡ t → r ≡ record { outcome = DimensionOutcome.Refused x } → Outcome r room p q sums
       go true o = refuses x r (rw o (rw o at e))
-      go false o = refuses x r (rw o (refusal_first (list_checks n s cells ++ bound_checks n (listed n s cells)) (room_checks n (listed n s cells) room p q sums) x (rw o at e)))
+      go false o = refuses x r (rw o (refusal_first (list_checks W C n s cells ++ bound_checks M n (listed n s cells)) (room_checks n (listed n s cells) room p q sums) x (rw o at e)))
 
-  module _ (e : decides n s cells ≡ none) where
+  module _ (e : decides W C M n s cells ≡ none) where
     no_degree : at_once n (listed n s cells) ≡ true → top_degree n (listed n s cells) ≡ 0
     no_degree o = go (unit_in (listed n s cells)) refl
       where
@@ -262,10 +284,10 @@ module _ (n s : ℕ) (cells room : List ℕ) (p q : List ℤ) (sums : List ℕ) 
 
     pub gives_known : (r : DimensionAnswer) (v : Wide) → at_once n (listed n s cells) ≡ true → v ≡ wide (dimension n (listed n s cells)) → r ≡ record { outcome = DimensionOutcome.Value (record { dimension = v; top = 0 }) } → Outcome r room p q sums
     gives_known r v o f g =
-        let a : refusal (dimension_checks n s cells room p q sums) ≡ none = rw o (rw o at e) in
+        let a : refusal (dimension_checks W C M n s cells room p q sums) ≡ none = rw o (rw o at e) in
         (rw (a, no_degree o) (g ∙ rw f), (rw (a, o), (rw (a, o), (rw (a, o), rw (a, o)))))
 
     pub leaves : (r : DimensionAnswer) (a : List ℕ) (b d : List ℤ) (c : List ℕ) → at_once n (listed n s cells) ≡ false → Left n (listed n s cells) room p q sums r a b d c → Outcome r a b d c
     leaves r a b d c o l =
-        let m : refusal (dimension_checks n s cells room p q sums) ≡ refusal (room_checks n (listed n s cells) room p q sums) = rw o (refusal_then (list_checks n s cells ++ bound_checks n (listed n s cells)) (room_checks n (listed n s cells) room p q sums) (rw o at e)) in
+        let m : refusal (dimension_checks W C M n s cells room p q sums) ≡ refusal (room_checks n (listed n s cells) room p q sums) = rw o (refusal_then (list_checks W C n s cells ++ bound_checks M n (listed n s cells)) (room_checks n (listed n s cells) room p q sums) (rw o at e)) in
         (rw m l.0, (rw (m, o) l.1.0, (rw (m, o) l.1.1.0, (rw (m, o) l.1.1.1.0, rw (m, o) l.1.1.1.1))))

@@ -1,18 +1,15 @@
 -- The outcomes of `hf_at`: which check decides, and that the two equations of its contract then hold.
 --   Outcome r a    == the answer r, and a in the sum room, are what the contract says
-use Rattle.std.proofs.Common.{◌≡◌, ℕ, ◌+◌, ◌-◌, ◌*◌, ◌^◌, ◌<◌, ◌≤◌, true, false, leb, List, ◌++◌, length, drop, replicate, ℤ, sym, ap, ◌∙◌, ap₂, append_assoc, arith, drop-drop, take_at, le-ltb, lt-ltb}
-use lib.ListN.{length-replicate, replicate-append-replicate}
+use Rattle.std.proofs.Common.{◌≡◌, ℕ, ◌+◌, ◌-◌, ◌*◌, ◌^◌, ◌<◌, ◌≤◌, true, false, leb, List, ◌++◌, length, drop, replicate, ℤ, sym, ap, ◌∙◌, ap₂, arith, drop-drop, le-ltb, lt-ltb}
 use lib.Seq.{drop-append-add}
-use borrow.Rule.Slice.PartMut.{put_mid, Post-is}
 use Rattle.laws.specs.Coefficients.{coefficient}
 use Rattle.laws.specs.Hilbert.{hilbert_size}
 use Rattle.laws.specs.Sums.{sumsℤ}
 use Rattle.laws.proofs.Hilbert.{hilbert_sums}
-use Rattle.monomials.specs.Limits.{max_width, max_degree}
 use Rattle.monomials.specs.declared.refusal.Refusal.TheVariants.{Width, Degree, SumRoom, Value}
-use Rattle.words.specs.Wide.{wide_of}
+use Rattle.numbers.specs.Wide.{wide_of}
 use Rattle.numbers.specs.Hilbert.{hilbert_answer, hilbert_room}
-use Rattle.words.specs.declared.wide.Wide.{Wide}
+use Rattle.numbers.specs.declared.wide.Wide.{Wide}
 use Rattle.numbers.specs.declared.hf_at.SignedOutcome.{SignedOutcome}
 use Rattle.numbers.specs.declared.hf_at.SignedAnswer.{SignedAnswer}
 
@@ -23,45 +20,31 @@ past_front xs ys h z k l =
     let r : h + (z - h) ≡ z = omega arith in
     ap (λ (j : ℕ). drop j (ys ++ drop h xs)) (sym q) ∙ drop-append-add ys (drop h xs) (z - h) ∙ drop-drop (z - h) h xs ∙ ap (λ (j : ℕ). drop j xs) r
 
--- z cells of which the first h were left at zero, and then the others
-both_zero : (xs ys zs : List ℕ) (h z : ℕ) → h ≤ z → ys ≡ replicate h 0 → zs ≡ replicate (z - h) 0 → put_mid h (z - h) (ys ++ drop h xs) zs ≡ replicate z 0 ++ drop z xs
-both_zero xs ys zs h z k ey ez =
-    let l : length ys ≡ h = ap length ey ∙ length-replicate h 0 in
-    let q : h + (z - h) ≡ z = omega arith in
-    ap₂ (λ (u v : List ℕ). u ++ (zs ++ v)) (take_at ys (drop h xs) h l) (Post-is h z (ys ++ drop h xs) k ∙ past_front xs ys h z k l)
-    ∙ sym (append_assoc ys zs (drop z xs))
-    ∙ ap (λ (u : List ℕ). u ++ drop z xs) (ap₂ ◌++◌ ey ez ∙ replicate-append-replicate h (z - h) 0 ∙ ap (λ (n : ℕ). replicate n 0) q)
-
-pub half_asked : (d : ℕ) → 2 * (d + 1) ≤ 4 * (d + 1)
-half_asked d = omega arith
-
-module _ (n : ℕ) (p : List ℤ) (d : ℕ) (room : List ℕ) where
+module _ (W D n : ℕ) (p : List ℤ) (d : ℕ) (room : List ℕ) where
   abbrev pub Outcome : SignedAnswer → List ℕ → Type 0
-  Outcome r a = (r ≡ hilbert_answer n p d room) × (a ≡ hilbert_room n d room)
+  Outcome r a = (r ≡ hilbert_answer W D n p d room) × (a ≡ hilbert_room W D n d room)
 
-  pub refuses_width : (r : SignedAnswer) → max_width < n → r ≡ record { outcome = SignedOutcome.Refused Width } → Outcome r room
-  refuses_width r h e = let f = lt-ltb max_width n h in (rw f e, rw f)
+  pub refuses_width : (r : SignedAnswer) → W < n → r ≡ record { outcome = SignedOutcome.Refused Width } → Outcome r room
+  refuses_width r h e = let f = lt-ltb W n h in (rw f e, rw f)
 
-  module _ (h : n ≤ max_width) where
-    pub refuses_degree : (r : SignedAnswer) → max_degree < d → r ≡ record { outcome = SignedOutcome.Refused Degree } → Outcome r room
-    refuses_degree r g e = (rw (le-ltb max_width n h, lt-ltb max_degree d g) e, rw (le-ltb max_width n h, lt-ltb max_degree d g))
+  module _ (h : n ≤ W) where
+    pub refuses_degree : (r : SignedAnswer) → D < d → r ≡ record { outcome = SignedOutcome.Refused Degree } → Outcome r room
+    refuses_degree r g e = (rw (le-ltb W n h, lt-ltb D d g) e, rw (le-ltb W n h, lt-ltb D d g))
 
-    module _ (g : d ≤ max_degree) where
+    module _ (g : d ≤ D) where
       pub refuses_room : (r : SignedAnswer) → length room < 4 * (d + 1) → r ≡ record { outcome = SignedOutcome.Refused SumRoom } → Outcome r room
       refuses_room r l e =
-          (rw (le-ltb max_width n h, le-ltb max_degree d g, lt-ltb (length room) (4 * (d + 1)) l) e, rw (le-ltb max_width n h, le-ltb max_degree d g, lt-ltb (length room) (4 * (d + 1)) l))
+          (rw (le-ltb W n h, le-ltb D d g, lt-ltb (length room) (4 * (d + 1)) l) e, rw (le-ltb W n h, le-ltb D d g, lt-ltb (length room) (4 * (d + 1)) l))
 
-      -- half of the asked room was lent and left as x, and then the other half, and left as y
-      module _ (l : 4 * (d + 1) ≤ length room) (x y : List ℕ) (ex : x ≡ replicate (2 * (d + 1)) 0) (ey : y ≡ replicate (4 * (d + 1) - 2 * (d + 1)) 0) where
-        abbrev pub after_both : List ℕ
-        after_both = put_mid (2 * (d + 1)) (4 * (d + 1) - 2 * (d + 1)) (x ++ drop (2 * (d + 1)) room) y
+      -- k cells of the room were lent and left as x, and then all that are asked, and left as y
+      module _ (l : 4 * (d + 1) ≤ length room) (x y : List ℕ) (k : ℕ) (i : k ≤ 4 * (d + 1)) (lx : length x ≡ k) (ey : y ≡ replicate (4 * (d + 1)) 0) where
+        room_left : y ++ drop (4 * (d + 1)) (x ++ drop k room) ≡ hilbert_room W D n d room
+        room_left =
+            rw (le-ltb W n h, le-ltb D d g, le-ltb (length room) (4 * (d + 1)) l) (ap₂ ◌++◌ ey (past_front room x k (4 * (d + 1)) i lx))
 
-        room_left : after_both ≡ hilbert_room n d room
-        room_left = rw (le-ltb max_width n h, le-ltb max_degree d g, le-ltb (length room) (4 * (d + 1)) l) (both_zero room x y (2 * (d + 1)) (4 * (d + 1)) (half_asked d) ex ey)
+        pub refuses_value : (r : SignedAnswer) → leb (2 ^ 127) (hilbert_size p n d) ≡ true → r ≡ record { outcome = SignedOutcome.Refused Value } → Outcome r (y ++ drop (4 * (d + 1)) (x ++ drop k room))
+        refuses_value r t e = (rw (le-ltb W n h, le-ltb D d g, le-ltb (length room) (4 * (d + 1)) l, t) e, room_left)
 
-        pub refuses_value : (r : SignedAnswer) → leb (2 ^ 127) (hilbert_size p n d) ≡ true → r ≡ record { outcome = SignedOutcome.Refused Value } → Outcome r after_both
-        refuses_value r t e = (rw (le-ltb max_width n h, le-ltb max_degree d g, le-ltb (length room) (4 * (d + 1)) l, t) e, room_left)
-
-        pub gives : (w : Wide) → leb (2 ^ 127) (hilbert_size p n d) ≡ false → w ≡ wide_of (sumsℤ n (coefficient p) d) → Outcome (record { outcome = SignedOutcome.Value w }) after_both
+        pub gives : (w : Wide) → leb (2 ^ 127) (hilbert_size p n d) ≡ false → w ≡ wide_of (sumsℤ n (coefficient p) d) → Outcome (record { outcome = SignedOutcome.Value w }) (y ++ drop (4 * (d + 1)) (x ++ drop k room))
         gives w t e =
-            (rw (le-ltb max_width n h, le-ltb max_degree d g, le-ltb (length room) (4 * (d + 1)) l, t) (rw (e, hilbert_sums p n d)), room_left)
+            (rw (le-ltb W n h, le-ltb D d g, le-ltb (length room) (4 * (d + 1)) l, t) (rw (e, hilbert_sums p n d)), room_left)

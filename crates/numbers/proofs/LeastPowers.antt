@@ -7,31 +7,30 @@ use Rattle.laws.specs.Sums.{sum_below, product_below}
 use Rattle.laws.specs.Dimension.{pure_power, lesser, least_power, finite, degree_bound, powers_product}
 use Rattle.laws.proofs.Monomial.{not_true}
 use Rattle.laws.proofs.Ideal.{listed_from, listed_all, listed_next, listed_none}
-use Rattle.laws.proofs.Sums.{product_below_ext, sum_below_ext}
+use Rattle.laws.proofs.Rows.{at, at_length, part_is}
+use Rattle.laws.proofs.Sums.{product_below_ext}
+use Rattle.laws.proofs.Asked.{sum_below_ext}
 use Rattle.laws.proofs.Dimension.{finite_power, power_finite}
-use Rattle.monomials.specs.Limits.{max_degree}
-use Rattle.passes.specs.Rows.{at}
-use Rattle.passes.proofs.Rows.{at_length, part_is}
 use Rattle.monomials.specs.declared.refusal.Refusal.TheVariants.{Dimension, Value}
-use Rattle.words.specs.Wide.{value, wide, product_outcome}
+use Rattle.numbers.specs.Wide.{value, wide, product_answer}
 use Rattle.numbers.specs.DimensionParts.{Cells, Powers, BoundOf}
-use Rattle.words.specs.declared.wide.Wide.{Wide}
-use Rattle.words.specs.declared.wide.ProductOutcome.{ProductOutcome}
-use Rattle.words.specs.declared.wide.ProductOutcome.TheVariants.{Exact, Passed}
+use Rattle.numbers.specs.declared.wide.Wide.{Wide}
+use Rattle.numbers.specs.declared.wide.Product.{Product}
+use Rattle.numbers.specs.declared.wide.Product.TheVariants.{Exact, Passed}
 use Rattle.numbers.specs.declared.powers.Checked.{Checked}
 use Rattle.numbers.proofs.Steps.{row_in}
-use Rattle.words.proofs.TwoWords.{value_exact, passes}
+use Rattle.numbers.proofs.TwoWords.{value_exact, passes}
 
 -- what a product's answer says
 
-pub product_exact : (q : ℕ) (w : Wide) → product_outcome q ≡ Exact w → (q < 2 ^ 127) × (w ≡ wide q)
+pub product_exact : (q : ℕ) (w : Wide) → product_answer q ≡ Exact w → (q < 2 ^ 127) × (w ≡ wide q)
 product_exact q w e = go (ltb q (2 ^ 127)) refl
   where
     go : (t : Bool) → ltb q (2 ^ 127) ≡ t → (q < 2 ^ 127) × (w ≡ wide q)
     go true l = (ltb-true q (2 ^ 127) l, cc (rw l at e))
     go false l = let z : ◌≡◌ {A = ℕ} 0 1 = cc (rw l at e) in absurd (omega arith)
 
-pub product_passed : (q : ℕ) → product_outcome q ≡ Passed → 2 ^ 127 ≤ q
+pub product_passed : (q : ℕ) → product_answer q ≡ Passed → 2 ^ 127 ≤ q
 product_passed q e = go (ltb q (2 ^ 127)) refl
   where
     go : (t : Bool) → ltb q (2 ^ 127) ≡ t → 2 ^ 127 ≤ q
@@ -39,21 +38,21 @@ product_passed q e = go (ltb q (2 ^ 127)) refl
     go false l = ltb-false q (2 ^ 127) l
 
 -- a product and one factor more
-module _ (q x : ℕ) (a : ProductOutcome) (e : a ≡ product_outcome q) where
-  pub times_exact : (w : Wide) (r : ProductOutcome) → a ≡ Exact w → r ≡ product_outcome (value w * x) → r ≡ product_outcome (x * q)
+module _ (q x : ℕ) (a : Product) (e : a ≡ product_answer q) where
+  pub times_exact : (w : Wide) (r : Product) → a ≡ Exact w → r ≡ product_answer (value w * x) → r ≡ product_answer (x * q)
   times_exact w r g h =
       let (l, k) = product_exact q w (sym e ∙ g) in
       let v : value w ≡ q = ap value k ∙ value_exact q (le_trans l (lit≤ tt)) in
-      h ∙ ap product_outcome (ap (λ (y : ℕ). y * x) v ∙ mul_comm q x)
+      h ∙ ap product_answer (ap (λ (y : ℕ). y * x) v ∙ mul_comm q x)
 
-  pub times_passed : x ≢ 0 → a ≡ Passed → Passed ≡ product_outcome (x * q)
+  pub times_passed : x ≢ 0 → a ≡ Passed → Passed ≡ product_answer (x * q)
   times_passed n g = passes (x * q) (le_trans (product_passed q (sym e ∙ g)) (rw (mul_comm x q) (le-mul_of_pos_right q (omega arith))))
 
 -- the checks 13 and 11 by the least powers
 
-module _ (n : ℕ) (powers : List ℕ) where
+module _ (M n : ℕ) (powers : List ℕ) where
   -- a variable has no power
-  pub bound_missing : (v : ℕ) → v < n → get_or powers v 0 ≡ 0 → BoundOf n powers (Checked.Refused Dimension)
+  pub bound_missing : (v : ℕ) → v < n → get_or powers v 0 ≡ 0 → BoundOf M n powers (Checked.Refused Dimension)
   bound_missing v h z L p =
       let e : finite n L ≡ false = not_true (finite n L) (λ t. finite_power n L v t h (sym (p v h) ∙ z)) in
       rw e
@@ -66,20 +65,20 @@ module _ (n : ℕ) (powers : List ℕ) where
     bound : (L : List (List ℕ)) → Powers n L powers → d ≡ degree_bound n L
     bound L p = e ∙ sum_below_ext n (λ v. get_or powers v 0 - 1) (λ v. least_power L v - 1) (λ v h. ap (λ (x : ℕ). x - 1) (p v h))
 
-    pub bound_large : max_degree < d → BoundOf n powers (Checked.Refused Dimension)
-    bound_large h L p = rw (all L p, ← bound L p, lt-ltb max_degree d h)
+    pub bound_large : M < d → BoundOf M n powers (Checked.Refused Dimension)
+    bound_large h L p = rw (all L p, ← bound L p, lt-ltb M d h)
 
-    module _ (h : d ≤ max_degree) (a : ProductOutcome) (f : a ≡ product_outcome (product_below n (λ v. get_or powers v 0))) where
-      answer : (L : List (List ℕ)) → Powers n L powers → a ≡ product_outcome (powers_product n L)
-      answer L p = f ∙ ap product_outcome (product_below_ext n (λ v. get_or powers v 0) (least_power L) p)
+    module _ (h : d ≤ M) (a : Product) (f : a ≡ product_answer (product_below n (λ v. get_or powers v 0))) where
+      answer : (L : List (List ℕ)) → Powers n L powers → a ≡ product_answer (powers_product n L)
+      answer L p = f ∙ ap product_answer (product_below_ext n (λ v. get_or powers v 0) (least_power L) p)
 
-      pub bound_passed : a ≡ Passed → BoundOf n powers (Checked.Refused Value)
+      pub bound_passed : a ≡ Passed → BoundOf M n powers (Checked.Refused Value)
       bound_passed g L p =
-          rw (all L p, ← bound L p, le-ltb max_degree d h, le-leb (2 ^ 127) (powers_product n L) (product_passed (powers_product n L) (sym (answer L p) ∙ g)))
+          rw (all L p, ← bound L p, le-ltb M d h, le-leb (2 ^ 127) (powers_product n L) (product_passed (powers_product n L) (sym (answer L p) ∙ g)))
 
-      pub bound_exact : (w : Wide) → a ≡ Exact w → BoundOf n powers (Checked.Bound d)
+      pub bound_exact : (w : Wide) → a ≡ Exact w → BoundOf M n powers (Checked.Bound d)
       bound_exact w g L p =
-          rw (all L p, ← bound L p, le-ltb max_degree d h, lt-leb (2 ^ 127) (powers_product n L) (product_exact (powers_product n L) w (sym (answer L p) ∙ g)).0)
+          rw (all L p, ← bound L p, le-ltb M d h, lt-leb (2 ^ 127) (powers_product n L) (product_exact (powers_product n L) w (sym (answer L p) ∙ g)).0)
 
 -- the listed monomials in their cells, one after the other: a is number i
 module _ (n s : ℕ) (cells : List ℕ) (c : Cells n s cells) (i : ℕ) where

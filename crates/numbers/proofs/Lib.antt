@@ -1,7 +1,9 @@
 -- Facts that belong to no one function.
+mod Bits
 mod Steps
 mod Tally
 mod ToLaws
+mod TwoWords
 mod KeptSums
 mod Numbers
 mod MaskArray
@@ -15,7 +17,7 @@ mod UpdateCall
 mod LeastPowers
 mod DimensionCall
 mod FewRows
-pub mod HilbertValue
+pub mod SignedValue
 pub mod DeterminedHilbert
 pub mod DeterminedNumerator
 pub mod DeterminedDimension

@@ -10,9 +10,9 @@ use lib.ListN.{length-map}
 use lib.Seq.{set_at}
 use Rattle.laws.specs.Ideal.{listed}
 use Rattle.laws.specs.Mask.{mask}
-use Rattle.monomials.specs.Limits.{max_width, max_count}
-use Rattle.laws.proofs.Ideal.{listed_count, listed_last}
-use Rattle.passes.specs.Rows.{at}
+use Rattle.laws.proofs.Ideal.{listed_count}
+use Rattle.laws.proofs.Rows.{at}
+use Rattle.laws.proofs.Grown.{listed_next}
 use Rattle.monomials.specs.Mask.{mask_answer}
 use Rattle.monomials.specs.declared.divmask.MaskOutcome.{MaskOutcome}
 use Rattle.monomials.specs.declared.divmask.MaskOutcome.TheVariants.{Value, Refused}
@@ -22,21 +22,21 @@ abbrev pub words_of : MaskOutcome → List ℕ
 words_of (Value m) = m.low ∷ m.high ∷ []
 words_of (Refused r) = 0 ∷ 0 ∷ []
 
-pub words_are : (n M : ℕ) (row : List ℕ) (a : MaskAnswer) → n ≤ max_width → a ≡ mask_answer n M row → words_of a.outcome ≡ mask n M row
-words_are n M row a h e = ap (λ (b : MaskAnswer). words_of b.outcome) e ∙ rw (le-ltb max_width n h)
+pub words_are : (n M : ℕ) (row : List ℕ) (a : MaskAnswer) → n ≤ 255 → a ≡ mask_answer 255 n M row → words_of a.outcome ≡ mask n M row
+words_are n M row a h e = ap (λ (b : MaskAnswer). words_of b.outcome) e ∙ rw (le-ltb 255 n h)
 
-pub mask_fits : (i s : ℕ) → i < s → s ≤ max_count → Fits w64 (i * 16)
+pub mask_fits : (i s : ℕ) → i < s → s ≤ 60 → Fits w64 (i * 16)
 mask_fits i s h g = omega arith
 
-module _ (n M : ℕ) (xs : List ℕ) (i : ℕ) (h : i < max_count) where
-  left : max_count - i ≡ suc (max_count - (i + 1))
+module _ (n M : ℕ) (xs : List ℕ) (i : ℕ) (h : i < 60) where
+  left : 60 - i ≡ suc (60 - (i + 1))
   left = omega arith
 
   len : length (map (mask n M) (listed n i xs)) ≡ i
   len = length-map (listed n i xs) (mask n M) ∙ listed_count n i xs
 
-  pub masks_next : (m : List (List ℕ)) (p : List ℕ) → p ≡ mask n M (at n i xs) → m ≡ map (mask n M) (listed n i xs) ++ replicate (max_count - i) (0 ∷ 0 ∷ [])
-      → set m i p ≡ map (mask n M) (listed n (i + 1) xs) ++ replicate (max_count - (i + 1)) (0 ∷ 0 ∷ [])
+  pub masks_next : (m : List (List ℕ)) (p : List ℕ) → p ≡ mask n M (at n i xs) → m ≡ map (mask n M) (listed n i xs) ++ replicate (60 - i) (0 ∷ 0 ∷ [])
+      → set m i p ≡ map (mask n M) (listed n (i + 1) xs) ++ replicate (60 - (i + 1)) (0 ∷ 0 ∷ [])
   masks_next m p q e =
-      rw (e, left, q, set_at (map (mask n M) (listed n i xs)) (0 ∷ 0 ∷ []) (replicate (max_count - (i + 1)) (0 ∷ 0 ∷ [])) (mask n M (at n i xs)) i len)
-      (rw (listed_last n i xs, map-append, append_assoc))
+      rw (e, left, q, set_at (map (mask n M) (listed n i xs)) (0 ∷ 0 ∷ []) (replicate (60 - (i + 1)) (0 ∷ 0 ∷ [])) (mask n M (at n i xs)) i len)
+      (rw (listed_next n i xs, map-append, append_assoc))

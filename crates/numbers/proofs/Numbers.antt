@@ -1,9 +1,9 @@
 -- Lists of two-word numbers, two words each: which there are, and one that is written. Assumes nothing.
 use Rattle.std.proofs.Common.{◌≡◌, ℕ, ◌+◌, ◌*◌, ◌^◌, ◌<◌, ◌≤◌, ◌≢◌, List, length, get_or, set, ap, ◌∙◌, ap₂, arith, length-set, get_or-set_other, get_or-set_same, w64, Fits, below_more}
 use Rattle.laws.specs.Word.{pair}
-use Rattle.words.specs.Wide.{value}
+use Rattle.numbers.specs.Wide.{value}
 use Rattle.numbers.specs.HilbertParts.{number_at}
-use Rattle.words.specs.declared.wide.Wide.{Wide}
+use Rattle.numbers.specs.declared.wide.Wide.{Wide}
 
 -- xs with w for its number k
 abbrev pub put : List ℕ → ℕ → Wide → List ℕ

@@ -8,8 +8,8 @@ use Rattle.laws.specs.Room.{cells_asked, coefficients_asked}
 use Rattle.monomials.specs.Refusal.{refusal}
 use Rattle.monomials.specs.declared.refusal.Refusal.{Refusal}
 use Rattle.numbers.specs.Numerator.{numerator_checks, numerator_answer, numerator_room, numerator_first, numerator_second}
-use Rattle.numbers.specs.declared.sizes.asked.Rooms.{Rooms}
-use Rattle.numbers.specs.declared.sizes.asked.Sizes.{Sizes}
+use Rattle.numbers.specs.declared.asked.Rooms.{Rooms}
+use Rattle.numbers.specs.declared.asked.Sizes.{Sizes}
 use Rattle.numbers.specs.declared.numerator.LengthOutcome.{LengthOutcome}
 use Rattle.numbers.specs.declared.numerator.LengthAnswer.{LengthAnswer}
 use Rattle.numbers.proofs.RoomsCall.{Passed, checks, one_cells, one_checks, one_coefficients, outcome, refused_is}
@@ -17,18 +17,18 @@ use Rattle.numbers.proofs.RoomsCall.{Passed, checks, one_cells, one_checks, one_
 module _ (n s : ℕ) (cells room : List ℕ) (p q : List ℤ) where
   abbrev pub Outcome : LengthAnswer → List ℕ → List ℤ → List ℤ → Type 0
   Outcome r a b d =
-      (r ≡ numerator_answer n s cells room p q)
-      × ((a ≡ numerator_room n s cells room p q)
-      × ((b ≡ numerator_first n s cells room p q)
-      × (d ≡ numerator_second n s cells room p q)))
+      (r ≡ numerator_answer 255 60 n s cells room p q)
+      × ((a ≡ numerator_room 255 60 n s cells room p q)
+      × ((b ≡ numerator_first 255 60 n s cells room p q)
+      × (d ≡ numerator_second 255 60 n s cells room p q)))
 
-  same : refusal (checks n s cells 0 [] false 0 (length room) (length p) (length q)) ≡ refusal (numerator_checks n s cells room p q)
+  same : refusal (checks n s cells 0 [] false 0 (length room) (length p) (length q)) ≡ refusal (numerator_checks 255 60 n s cells room p q)
   same = one_checks n s cells (length room) (length p) (length q)
 
   pub refuses : (w : Rooms) (x : Refusal) (r : LengthAnswer) → w ≡ outcome n s cells 0 [] false 0 (length room) (length p) (length q) → w ≡ Rooms.Refused x → r ≡ record { outcome = LengthOutcome.Refused x }
       → Outcome r room p q
   refuses w x r f g h =
-      let e : refusal (numerator_checks n s cells room p q) ≡ some x = sym same ∙ refused_is n s cells 0 [] false 0 (length room) (length p) (length q) w x f g in
+      let e : refusal (numerator_checks 255 60 n s cells room p q) ≡ some x = sym same ∙ refused_is n s cells 0 [] false 0 (length room) (length p) (length q) w x f g in
       (rw e h, (rw e, (rw e, rw e)))
 
   module _ (a : Sizes) (h : Passed n s cells 0 [] false 0 (length room) (length p) (length q) a) where
@@ -43,7 +43,7 @@ module _ (n s : ℕ) (cells room : List ℕ) (p q : List ℤ) where
         → (x ≡ length (numerator (listed n s cells))) × (A ≡ replicate i 0) → B ≡ numerator (listed n s cells) ++ replicate (j - length (numerator (listed n s cells))) (pos 0) → D ≡ replicate k (pos 0)
         → Outcome r (A ++ drop a.cells room) (B ++ drop a.coefficients p) (D ++ drop a.coefficients q)
     gives i j k x r A B D ei ej ek e v eB eD =
-        let o : refusal (numerator_checks n s cells room p q) ≡ none = sym same ∙ h.none in
+        let o : refusal (numerator_checks 255 60 n s cells room p q) ≡ none = sym same ∙ h.none in
         let N = numerator (listed n s cells) in (
           rw o (e ∙ ap (λ (y : ℕ). record { outcome = LengthOutcome.Value y }) v.0),
           (

@@ -7,12 +7,14 @@ use native.Mathlib.Nat.{mod-add-mod, mod_self, mul-add-mod_self_right}
 use lib.ListN.{get_or-append}
 use Rattle.laws.specs.Monomial.{quotient, product}
 use Rattle.laws.specs.Ideal.{colon, multiple}
-use Rattle.laws.proofs.Monomial.{length_quotient, quotient_cell}
-use Rattle.laws.proofs.Ideal.{multiple_colon, listed_append}
-use Rattle.passes.specs.Pass.{Thinned, Carries}
-use Rattle.passes.specs.Rows.{Wrote, at, rows}
-use Rattle.passes.specs.Sizes.{both}
-use Rattle.passes.proofs.Rows.{at_cell, at_length, rows_same}
+use Rattle.laws.proofs.Monomial.{length_quotient}
+use Rattle.laws.proofs.Ideal.{multiple_colon}
+use Rattle.laws.proofs.Rows.{Wrote, at, at_cell, at_length, rows}
+use Rattle.laws.proofs.Pass.{Thinned}
+use Rattle.laws.proofs.Asked.{both}
+use Rattle.laws.proofs.Few.{quotient_cell}
+use Rattle.laws.proofs.Exact.{rows_same}
+use Rattle.laws.proofs.Grown.{Carries, listed_append}
 use Rattle.numbers.proofs.AskedCells.{variables}
 use Rattle.numbers.proofs.Steps.{next_fits_in}
 

@@ -10,24 +10,22 @@ use mathlib.Core.Option.{Option, none, some, Option-elim}
 use borrow.Author.Tests.{not-false}
 use Rattle.laws.specs.Ideal.{listed}
 use Rattle.laws.specs.Room.{cells_asked, coefficients_asked, dimension_words}
+use Rattle.laws.proofs.Asked.{both}
 use Rattle.laws.proofs.Monomial.{or_right}
 use Rattle.monomials.specs.Refusal.{Check, refusal}
 use Rattle.monomials.specs.declared.refusal.Refusal.{Refusal}
 use Rattle.monomials.specs.declared.refusal.Refusal.TheVariants.{Width, Count, Cells, Coefficient, CellRoom, CoefficientRoom}
-use Rattle.monomials.proofs.Refusals.{refusal_none}
-use Rattle.monomials.specs.List.{list_checks, not_cells, too_many}
+use Rattle.numbers.specs.Numerator.{list_checks, not_cells, too_many}
 use Rattle.laws.specs.Dimension.{degree_bound}
-use Rattle.monomials.specs.Limits.{max_width, max_count}
-use Rattle.passes.specs.Sizes.{both}
 use Rattle.numbers.specs.Dimension.{room_checks, sum_room}
 use Rattle.numbers.specs.DimensionParts.{Cells as CellsOf}
 use Rattle.numbers.specs.RoomsParts.{rooms_answer, rooms_checks}
-use Rattle.numbers.proofs.DimensionCall.{Left}
+use Rattle.numbers.proofs.DimensionCall.{Left, refusal_none}
 use Rattle.numbers.proofs.ToLaws.{neither}
 use Rattle.numbers.specs.declared.dimension.DimensionOutcome.{DimensionOutcome}
 use Rattle.numbers.specs.declared.dimension.DimensionAnswer.{DimensionAnswer}
-use Rattle.numbers.specs.declared.sizes.asked.Rooms.{Rooms}
-use Rattle.numbers.specs.declared.sizes.asked.Sizes.{Sizes}
+use Rattle.numbers.specs.declared.asked.Rooms.{Rooms}
+use Rattle.numbers.specs.declared.asked.Sizes.{Sizes}
 
 -- an outcome read back
 elim_refused : (o : Option Refusal) (a : Sizes) (x : Refusal) → Option-elim o (Rooms.Asked a) Rooms.Refused ≡ Rooms.Refused x → o ≡ some x
@@ -57,28 +55,28 @@ module _ (n s : ℕ) (xs : List ℕ) (t : ℕ) (ys : List ℕ) (large : Bool) (l
   unfolding Option-elim rooms_answer
   stops x e = rw e
 
-  pub stops_width : max_width < n → Rooms.Refused Width ≡ outcome
-  stops_width h = stops Width (rw (lt-ltb max_width n h))
+  pub stops_width : 255 < n → Rooms.Refused Width ≡ outcome
+  stops_width h = stops Width (rw (lt-ltb 255 n h))
 
-  module _ (h : n ≤ max_width) where
-    pub stops_count : max_count < s + t → Rooms.Refused Count ≡ outcome
-    stops_count g = stops Count (rw (le-ltb max_width n h, lt-ltb max_count (s + t) g))
+  module _ (h : n ≤ 255) where
+    pub stops_count : 60 < s + t → Rooms.Refused Count ≡ outcome
+    stops_count g = stops Count (rw (le-ltb 255 n h, lt-ltb 60 (s + t) g))
 
-    module _ (g : s + t ≤ max_count) where
+    module _ (g : s + t ≤ 60) where
       pub stops_first : (length xs ≡ s * n → ⊥) → Rooms.Refused Cells ≡ outcome
-      stops_first f = stops Cells (rw (le-ltb max_width n h, le-ltb max_count (s + t) g, ne_eqb (length xs) (s * n) f))
+      stops_first f = stops Cells (rw (le-ltb 255 n h, le-ltb 60 (s + t) g, ne_eqb (length xs) (s * n) f))
 
       module _ (f : length xs ≡ s * n) where
         pub stops_second : (length ys ≡ t * n → ⊥) → Rooms.Refused Cells ≡ outcome
-        stops_second k = stops Cells (rw (le-ltb max_width n h, le-ltb max_count (s + t) g, eq-eqb (length xs) (s * n) f, ne_eqb (length ys) (t * n) k))
+        stops_second k = stops Cells (rw (le-ltb 255 n h, le-ltb 60 (s + t) g, eq-eqb (length xs) (s * n) f, ne_eqb (length ys) (t * n) k))
 
         module _ (k : length ys ≡ t * n) where
           pub stops_large : large ≡ true → Rooms.Refused Coefficient ≡ outcome
-          stops_large o = stops Coefficient (rw (le-ltb max_width n h, le-ltb max_count (s + t) g, eq-eqb (length xs) (s * n) f, eq-eqb (length ys) (t * n) k, o))
+          stops_large o = stops Coefficient (rw (le-ltb 255 n h, le-ltb 60 (s + t) g, eq-eqb (length xs) (s * n) f, eq-eqb (length ys) (t * n) k, o))
 
           module _ (o : large ≡ false) (a : Sizes) (ea : a.cells ≡ cells) (eb : a.coefficients ≡ coefficients) where
             first_four : refusal checks ≡ refusal ((ltb room cells, CellRoom) ∷ (ltb first coefficients || ltb second coefficients, CoefficientRoom) ∷ [])
-            first_four = rw (le-ltb max_width n h, le-ltb max_count (s + t) g, eq-eqb (length xs) (s * n) f, eq-eqb (length ys) (t * n) k, o)
+            first_four = rw (le-ltb 255 n h, le-ltb 60 (s + t) g, eq-eqb (length xs) (s * n) f, eq-eqb (length ys) (t * n) k, o)
 
             pub stops_room : room < a.cells → Rooms.Refused CellRoom ≡ outcome
             stops_room l = stops CellRoom (first_four ∙ rw (lt-ltb room cells (rw ea at l)))
@@ -104,8 +102,8 @@ module _ (n s : ℕ) (xs : List ℕ) (t : ℕ) (ys : List ℕ) (large : Bool) (l
   -- a call that passes
   pub record Passed (a : Sizes) : Type 0 where
     pub none : refusal checks ≡ none
-    pub width : n ≤ max_width
-    pub count : s + t ≤ max_count
+    pub width : n ≤ 255
+    pub count : s + t ≤ 60
     pub first_there : length xs ≡ s * n
     pub second_there : length ys ≡ t * n
     pub small : large ≡ false
@@ -123,8 +121,8 @@ module _ (n s : ℕ) (xs : List ℕ) (t : ℕ) (ys : List ℕ) (large : Bool) (l
   unfolding rooms_answer
   asked_is r a e f =
       let (o, i) = elim_asked (refusal checks) (record { cells = cells; coefficients = coefficients }) a (sym e ∙ f) in
-      let (o1, p1) = refusal_none (ltb max_width n, Width) (too_many (s + t) ∷ not_cells n s xs ∷ not_cells n t ys ∷ (large, Coefficient) ∷ (ltb room cells, CellRoom) ∷ (ltb first coefficients || ltb second coefficients, CoefficientRoom) ∷ []) o in
-      let (o2, p2) = refusal_none (ltb max_count (s + t), Count) (not_cells n s xs ∷ not_cells n t ys ∷ (large, Coefficient) ∷ (ltb room cells, CellRoom) ∷ (ltb first coefficients || ltb second coefficients, CoefficientRoom) ∷ []) p1 in
+      let (o1, p1) = refusal_none (ltb 255 n, Width) (too_many 60 (s + t) ∷ not_cells n s xs ∷ not_cells n t ys ∷ (large, Coefficient) ∷ (ltb room cells, CellRoom) ∷ (ltb first coefficients || ltb second coefficients, CoefficientRoom) ∷ []) o in
+      let (o2, p2) = refusal_none (ltb 60 (s + t), Count) (not_cells n s xs ∷ not_cells n t ys ∷ (large, Coefficient) ∷ (ltb room cells, CellRoom) ∷ (ltb first coefficients || ltb second coefficients, CoefficientRoom) ∷ []) p1 in
       let (o3, p3) = refusal_none (not (eqb (length xs) (s * n)), Cells) (not_cells n t ys ∷ (large, Coefficient) ∷ (ltb room cells, CellRoom) ∷ (ltb first coefficients || ltb second coefficients, CoefficientRoom) ∷ []) p2 in
       let (o4, p4) = refusal_none (not (eqb (length ys) (t * n)), Cells) ((large, Coefficient) ∷ (ltb room cells, CellRoom) ∷ (ltb first coefficients || ltb second coefficients, CoefficientRoom) ∷ []) p3 in
       let (o5, p5) = refusal_none (large, Coefficient) ((ltb room cells, CellRoom) ∷ (ltb first coefficients || ltb second coefficients, CoefficientRoom) ∷ []) p4 in
@@ -135,8 +133,8 @@ module _ (n s : ℕ) (xs : List ℕ) (t : ℕ) (ys : List ℕ) (large : Bool) (l
       let eb : a.coefficients ≡ coefficients = ap (λ (b : Sizes). b.coefficients) i in
       record {
         none = o;
-        width = ltb-false max_width n o1;
-        count = ltb-false max_count (s + t) o2;
+        width = ltb-false 255 n o1;
+        count = ltb-false 60 (s + t) o2;
         first_there = eqb-true (length xs) (s * n) (not-false (eqb (length xs) (s * n)) o3);
         second_there = eqb-true (length ys) (t * n) (not-false (eqb (length ys) (t * n)) o4);
         small = o5;
@@ -156,14 +154,14 @@ module _ (n s : ℕ) (xs : List ℕ) (room first second : ℕ) where
   one_coefficients = omega (arith, ap coefficients_asked (append-nil (listed n s xs)))
 
   pub one_checks : refusal (checks n s xs 0 [] false 0 room first second)
-      ≡ refusal (list_checks n s xs ++ (ltb room (cells_asked n (listed n s xs)), CellRoom) ∷ (ltb first (coefficients_asked (listed n s xs)) || ltb second (coefficients_asked (listed n s xs)), CoefficientRoom) ∷ [])
+      ≡ refusal (list_checks 255 60 n s xs ++ (ltb room (cells_asked n (listed n s xs)), CellRoom) ∷ (ltb first (coefficients_asked (listed n s xs)) || ltb second (coefficients_asked (listed n s xs)), CoefficientRoom) ∷ [])
   one_checks = rw (add-zero s, zero-mul n, one_cells, one_coefficients)
 
   -- where the list is known to be within the limits
   module _ (h : CellsOf n s xs) where
     pub one_rooms : refusal (checks n s xs 0 [] false 0 room first second)
         ≡ refusal ((ltb room (cells_asked n (listed n s xs)), CellRoom) ∷ (ltb first (coefficients_asked (listed n s xs)) || ltb second (coefficients_asked (listed n s xs)), CoefficientRoom) ∷ [])
-    one_rooms = one_checks ∙ rw (le-ltb max_width n h.width, le-ltb max_count s h.count, eq-eqb (length xs) (s * n) h.there)
+    one_rooms = one_checks ∙ rw (le-ltb 255 n h.width, le-ltb 60 s h.count, eq-eqb (length xs) (s * n) h.there)
 
 -- two checks, with one behind them
 two_decide : (a b : Bool) (u v : Refusal) (c : Check) (x : Refusal) → refusal ((a, u) ∷ (b, v) ∷ []) ≡ some x → refusal ((a, u) ∷ (b, v) ∷ c ∷ []) ≡ some x

@@ -3,9 +3,7 @@
 --   next-..      the next place, i + 1
 --   row-.., cell-.. monomial i of m, n exponents each, in a list of L cells
 use Rattle.std.proofs.Common.{◌≡◌, ℕ, ◌+◌, ◌-◌, ◌*◌, ◌^◌, ◌<◌, ◌≤◌, List, length, sym, ap, ◌∙◌, arith, w64, Fits}
-use Rattle.laws.proofs.Ideal.{row_end}
-use Rattle.passes.specs.Rows.{at}
-use Rattle.passes.proofs.Rows.{at_length}
+use Rattle.laws.proofs.Rows.{at, at_length, row_end}
 
 pub fits_most : (a L : ℕ) → a ≤ L → L < 2 ^ 64 → Fits w64 a
 fits_most a L h f = omega arith

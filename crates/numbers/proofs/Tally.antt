@@ -5,10 +5,10 @@
 --   tally_fits, tally_widens            it fits the word with the next one added, and a word of 64 bits
 --   tally_quotient                      of a quotient, one more
 use Rattle.std.proofs.Common.{◌≡◌, ℕ, ◌+◌, ◌-◌, ◌*◌, ◌<◌, ◌≤◌, List, length, get_or, drop, sym, ◌∙◌, arith, w32, w64, Fits}
-use Rattle.laws.proofs.Monomial.{length_quotient, quotient_cell}
+use Rattle.laws.proofs.Few.{DegreeIs, quotient_cell}
+use Rattle.laws.proofs.Monomial.{length_quotient}
+use Rattle.laws.proofs.Rows.{degree_drop, degree_end}
 use Rattle.laws.specs.Monomial.{degree, quotient}
-use Rattle.passes.specs.Factors.{DegreeIs}
-use Rattle.passes.proofs.Rows.{degree_drop, degree_end}
 
 pub record Tally (xs : List ℕ) (i d : ℕ) : Type 0 where
   pub most : d ≤ 65535 * i

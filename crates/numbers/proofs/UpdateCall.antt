@@ -8,12 +8,11 @@ use mathlib.Core.Option.{none, some}
 use Rattle.laws.specs.Coefficients.{coefficient}
 use Rattle.laws.specs.Ideal.{listed}
 use Rattle.laws.specs.Numerator.{update}
-use Rattle.monomials.specs.Limits.{max_coefficient}
 use Rattle.monomials.specs.Refusal.{refusal}
 use Rattle.monomials.specs.declared.refusal.Refusal.{Refusal}
 use Rattle.numbers.specs.Update.{beyond, update_checks, update_answer, update_room, update_first, update_second}
-use Rattle.numbers.specs.declared.sizes.asked.Rooms.{Rooms}
-use Rattle.numbers.specs.declared.sizes.asked.Sizes.{Sizes}
+use Rattle.numbers.specs.declared.asked.Rooms.{Rooms}
+use Rattle.numbers.specs.declared.asked.Sizes.{Sizes}
 use Rattle.numbers.specs.declared.numerator.LengthOutcome.{LengthOutcome}
 use Rattle.numbers.specs.declared.numerator.LengthAnswer.{LengthAnswer}
 use Rattle.numbers.proofs.RoomsCall.{Passed, checks, outcome, refused_is}
@@ -21,38 +20,38 @@ use Rattle.numbers.proofs.ToLaws.{neither}
 
 -- check 15, coefficient by coefficient
 
-beyond_rest : (G : List ℤ) (i : ℕ) → i < length G → beyond (drop i G) ≡ (ltb max_coefficient (nat_abs (coefficient G i)) || beyond (drop (i + 1) G))
-beyond_rest G i h = rw (add-one i) (ap (beyond) (drop-cons G i (pos 0) h))
+beyond_rest : (M : ℕ) (G : List ℤ) (i : ℕ) → i < length G → beyond M (drop i G) ≡ (ltb M (nat_abs (coefficient G i)) || beyond M (drop (i + 1) G))
+beyond_rest M G i h = rw (add-one i) (ap (beyond M) (drop-cons G i (pos 0) h))
 
-pub beyond_stop : (G : List ℤ) (i : ℕ) → i < length G → max_coefficient < nat_abs (coefficient G i) → beyond G ≡ beyond (drop i G) → true ≡ beyond G
-beyond_stop G i h l e = sym (e ∙ beyond_rest G i h ∙ ap (λ (b : Bool). b || beyond (drop (i + 1) G)) (lt-ltb max_coefficient (nat_abs (coefficient G i)) l))
+pub beyond_stop : (M : ℕ) (G : List ℤ) (i : ℕ) → i < length G → M < nat_abs (coefficient G i) → beyond M G ≡ beyond M (drop i G) → true ≡ beyond M G
+beyond_stop M G i h l e = sym (e ∙ beyond_rest M G i h ∙ ap (λ (b : Bool). b || beyond M (drop (i + 1) G)) (lt-ltb M (nat_abs (coefficient G i)) l))
 
-pub beyond_next : (G : List ℤ) (i : ℕ) → i < length G → nat_abs (coefficient G i) ≤ max_coefficient → beyond G ≡ beyond (drop i G) → beyond G ≡ beyond (drop (i + 1) G)
-beyond_next G i h l e = e ∙ beyond_rest G i h ∙ ap (λ (b : Bool). b || beyond (drop (i + 1) G)) (le-ltb max_coefficient (nat_abs (coefficient G i)) l)
+pub beyond_next : (M : ℕ) (G : List ℤ) (i : ℕ) → i < length G → nat_abs (coefficient G i) ≤ M → beyond M G ≡ beyond M (drop i G) → beyond M G ≡ beyond M (drop (i + 1) G)
+beyond_next M G i h l e = e ∙ beyond_rest M G i h ∙ ap (λ (b : Bool). b || beyond M (drop (i + 1) G)) (le-ltb M (nat_abs (coefficient G i)) l)
 
-pub beyond_end : (G : List ℤ) (i : ℕ) → length G ≤ i → beyond G ≡ beyond (drop i G) → false ≡ beyond G
-beyond_end G i h e = sym (e ∙ ap (beyond) (drop_of_length-le G h))
+pub beyond_end : (M : ℕ) (G : List ℤ) (i : ℕ) → length G ≤ i → beyond M G ≡ beyond M (drop i G) → false ≡ beyond M G
+beyond_end M G i h e = sym (e ∙ ap (beyond M) (drop_of_length-le G h))
 
-pub within : (G : List ℤ) → beyond G ≡ false → (k : ℕ) → nat_abs (coefficient G k) ≤ max_coefficient
-within [] h k = omega arith
-within (z ∷ G) h zero = ltb-false max_coefficient (nat_abs z) (neither (ltb max_coefficient (nat_abs z)) (beyond G) h).0
-within (z ∷ G) h (suc k) = within G (neither (ltb max_coefficient (nat_abs z)) (beyond G) h).1 k
+pub within : (M : ℕ) (G : List ℤ) → beyond M G ≡ false → (k : ℕ) → nat_abs (coefficient G k) ≤ M
+within M [] h k = omega arith
+within M (z ∷ G) h zero = ltb-false M (nat_abs z) (neither (ltb M (nat_abs z)) (beyond M G) h).0
+within M (z ∷ G) h (suc k) = within M G (neither (ltb M (nat_abs z)) (beyond M G) h).1 k
 
-module _ (n : ℕ) (G : List ℤ) (s0 : ℕ) (existing : List ℕ) (s1 : ℕ) (added room : List ℕ) (p q : List ℤ) (b : Bool) (eb : b ≡ beyond G) where
+module _ (M n : ℕ) (G : List ℤ) (s0 : ℕ) (existing : List ℕ) (s1 : ℕ) (added room : List ℕ) (p q : List ℤ) (b : Bool) (eb : b ≡ beyond M G) where
   abbrev pub Outcome : LengthAnswer → List ℕ → List ℤ → List ℤ → Type 0
   Outcome r a c d =
-      (r ≡ update_answer n G s0 existing s1 added room p q)
-      × ((a ≡ update_room n G s0 existing s1 added room p q)
-      × ((c ≡ update_first n G s0 existing s1 added room p q)
-      × (d ≡ update_second n G s0 existing s1 added room p q)))
+      (r ≡ update_answer 255 60 M n G s0 existing s1 added room p q)
+      × ((a ≡ update_room 255 60 M n G s0 existing s1 added room p q)
+      × ((c ≡ update_first 255 60 M n G s0 existing s1 added room p q)
+      × (d ≡ update_second 255 60 M n G s0 existing s1 added room p q)))
 
-  same : refusal (checks n s0 existing s1 added b (length G) (length room) (length p) (length q)) ≡ refusal (update_checks n G s0 existing s1 added room p q)
+  same : refusal (checks n s0 existing s1 added b (length G) (length room) (length p) (length q)) ≡ refusal (update_checks 255 60 M n G s0 existing s1 added room p q)
   same = ap (λ (l : Bool). refusal (checks n s0 existing s1 added l (length G) (length room) (length p) (length q))) eb
 
   pub refuses : (w : Rooms) (x : Refusal) (r : LengthAnswer) → w ≡ outcome n s0 existing s1 added b (length G) (length room) (length p) (length q) → w ≡ Rooms.Refused x → r ≡ record { outcome = LengthOutcome.Refused x }
       → Outcome r room p q
   refuses w x r f g h =
-      let e : refusal (update_checks n G s0 existing s1 added room p q) ≡ some x = sym same ∙ refused_is n s0 existing s1 added b (length G) (length room) (length p) (length q) w x f g in
+      let e : refusal (update_checks 255 60 M n G s0 existing s1 added room p q) ≡ some x = sym same ∙ refused_is n s0 existing s1 added b (length G) (length room) (length p) (length q) w x f g in
       (rw e h, (rw e, (rw e, rw e)))
 
   module _ (a : Sizes) (h : Passed n s0 existing s1 added b (length G) (length room) (length p) (length q) a) where
@@ -62,7 +61,7 @@ module _ (n : ℕ) (G : List ℤ) (s0 : ℕ) (existing : List ℕ) (s1 : ℕ) (a
         → B ≡ update G (listed n s0 existing) (listed n s1 added) ++ replicate (j - length (update G (listed n s0 existing) (listed n s1 added))) (pos 0) → D ≡ replicate k (pos 0)
         → Outcome r (A ++ drop a.cells room) (B ++ drop a.coefficients p) (D ++ drop a.coefficients q)
     gives i j k x r A B D ei ej ek e v eB eD =
-        let y : refusal (update_checks n G s0 existing s1 added room p q) ≡ none = sym same ∙ h.none in
+        let y : refusal (update_checks 255 60 M n G s0 existing s1 added room p q) ≡ none = sym same ∙ h.none in
         let N = update G (listed n s0 existing) (listed n s1 added) in (
           rw y (e ∙ ap (λ (z : ℕ). record { outcome = LengthOutcome.Value z }) v.0),
           (

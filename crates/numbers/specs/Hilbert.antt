@@ -1,4 +1,5 @@
--- The Hilbert function at a degree: the checks in their order, the answer, and what the room then holds.
+-- The Hilbert function at a degree: the checks in their order, the answer, and what the room then holds. W is the greatest width, D the
+-- greatest degree.
 --   signed_answer r z   == the refusal, or else the integer z as a signed two-word number, which holds it whole where 11 does not refuse
 --                         (`hf_at_value` of promises)
 --   room_checks         == the checks that come before any work: 1, 10, 9
@@ -11,11 +12,10 @@ use Rattle.std.specs.Prelude.{ℕ, ◌^◌, List, [], ◌∷◌, ◌++◌, lengt
 use Rattle.std.proofs.Math.Option.{Option, none, some}
 use Rattle.laws.specs.Hilbert.{hilbert, hilbert_size}
 use Rattle.laws.specs.Room.{hilbert_words}
-use Rattle.monomials.specs.Limits.{max_degree}
 use Rattle.monomials.specs.Refusal.{Check, refusal, after, too_wide}
 use Rattle.monomials.specs.declared.refusal.Refusal.{Refusal}
 use Rattle.monomials.specs.declared.refusal.Refusal.TheVariants.{SumRoom, Degree, Value}
-use Rattle.words.specs.Wide.{wide_of}
+use Rattle.numbers.specs.Wide.{wide_of}
 use Rattle.numbers.specs.declared.hf_at.SignedOutcome.{SignedOutcome}
 use Rattle.numbers.specs.declared.hf_at.SignedAnswer.{SignedAnswer}
 
@@ -23,17 +23,17 @@ abbrev pub signed_answer : Option Refusal → ℤ → SignedAnswer
 signed_answer none z = record { outcome = SignedOutcome.Value (wide_of z) }
 signed_answer (some r) z = record { outcome = SignedOutcome.Refused r }
 
-abbrev pub room_checks : ℕ → ℕ → List ℕ → List Check
-room_checks n d room = too_wide n ∷ (nat_lt max_degree d, Degree) ∷ (nat_lt (length room) (hilbert_words d), SumRoom) ∷ []
+abbrev pub room_checks : ℕ → ℕ → ℕ → ℕ → List ℕ → List Check
+room_checks W D n d room = too_wide W n ∷ (nat_lt D d, Degree) ∷ (nat_lt (length room) (hilbert_words d), SumRoom) ∷ []
 
 abbrev pub value_check : ℕ → Check
 value_check size = (nat_le (2 ^ 127) size, Value)
 
-abbrev pub hilbert_checks : ℕ → List ℤ → ℕ → List ℕ → List Check
-hilbert_checks n p d room = room_checks n d room ++ value_check (hilbert_size p n d) ∷ []
+abbrev pub hilbert_checks : ℕ → ℕ → ℕ → List ℤ → ℕ → List ℕ → List Check
+hilbert_checks W D n p d room = room_checks W D n d room ++ value_check (hilbert_size p n d) ∷ []
 
-abbrev pub hilbert_answer : ℕ → List ℤ → ℕ → List ℕ → SignedAnswer
-hilbert_answer n p d room = signed_answer (refusal (hilbert_checks n p d room)) (hilbert p n d)
+abbrev pub hilbert_answer : ℕ → ℕ → ℕ → List ℤ → ℕ → List ℕ → SignedAnswer
+hilbert_answer W D n p d room = signed_answer (refusal (hilbert_checks W D n p d room)) (hilbert p n d)
 
-abbrev pub hilbert_room : ℕ → ℕ → List ℕ → List ℕ
-hilbert_room n d room = after (refusal (room_checks n d room)) (replicate (hilbert_words d) 0 ++ drop (hilbert_words d) room) room
+abbrev pub hilbert_room : ℕ → ℕ → ℕ → ℕ → List ℕ → List ℕ
+hilbert_room W D n d room = after (refusal (room_checks W D n d room)) (replicate (hilbert_words d) 0 ++ drop (hilbert_words d) room) room

@@ -1,4 +1,5 @@
 -- What the contracts of layer 2 cite.
+pub mod Wide
 pub mod Coefficients
 pub mod Hilbert
 pub mod HilbertParts

@@ -9,13 +9,13 @@ use Rattle.laws.specs.Ideal.{listed}
 use Rattle.laws.specs.Room.{cells_asked, coefficients_asked}
 use Rattle.monomials.specs.Refusal.{Check, refusal, too_wide}
 use Rattle.monomials.specs.declared.refusal.Refusal.TheVariants.{Coefficient, CellRoom, CoefficientRoom}
-use Rattle.monomials.specs.List.{not_cells, too_many}
-use Rattle.numbers.specs.declared.sizes.asked.Rooms.{Rooms}
+use Rattle.numbers.specs.Numerator.{not_cells, too_many}
+use Rattle.numbers.specs.declared.asked.Rooms.{Rooms}
 
 abbrev pub rooms_checks : ℕ → ℕ → List ℕ → ℕ → List ℕ → Bool → ℕ → ℕ → ℕ → ℕ → List Check
 rooms_checks n s xs t ys large least room first second =
-    too_wide n
-    ∷ too_many (s + t)
+    too_wide 255 n
+    ∷ too_many 60 (s + t)
     ∷ not_cells n s xs
     ∷ not_cells n t ys
     ∷ (large, Coefficient)

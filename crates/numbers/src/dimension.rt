@@ -5,15 +5,15 @@ ghost use Rattle.laws.specs.Dimension.{dimension as dimension_of};
 ghost use Rattle.laws.specs.Ideal.{listed};
 ghost use Rattle.numbers.specs.Dimension.{dimension_answer, dimension_room, dimension_first, dimension_second, dimension_sums};
 ghost use Rattle.numbers.specs.DimensionParts.{Cells, Bounded, Lent, list_answer};
-ghost use Rattle.words.specs.Wide.{wide};
+ghost use Rattle.numbers.specs.Wide.{wide};
 
-use crate::cells::wipe::wipe_coefficients;
-use crate::hf_at::{Terms, prefix_sum};
+use crate::asked::{Rooms, checked_list};
+use crate::hf_at::{MAX_DEGREE, Terms, prefix_sum};
+use crate::leaf::zero;
 use crate::numerator::numerator_in;
 use crate::powers::{Checked, checked_bound, has_unit};
-use crate::sizes::asked::{Rooms, checked_list};
+use crate::wide::Wide;
 use monomials::refusal::{MAX_COUNT, MAX_WIDTH, Refusal};
-use words::wide::Wide;
 
 // A dimension, and the top degree beside it.
 #[derive(Drop)]
@@ -45,11 +45,11 @@ pub fn quotient_dimension(
     second: &mut [i64],
     sums: &mut [u64],
 ) -> DimensionAnswer
-    ensures value { result ≡ dimension_answer n s cells.now room.old first.old second.old sums.old }
-    ensures room_after { room.new ≡ dimension_room n s cells.now room.old first.old second.old sums.old }
-    ensures first_after { first.new ≡ dimension_first n s cells.now room.old first.old second.old sums.old }
-    ensures second_after { second.new ≡ dimension_second n s cells.now room.old first.old second.old sums.old }
-    ensures sums_after { sums.new ≡ dimension_sums n s cells.now room.old first.old second.old sums.old }
+    ensures value { result ≡ dimension_answer MAX_WIDTH MAX_COUNT MAX_DEGREE n s cells.now room.old first.old second.old sums.old }
+    ensures room_after { room.new ≡ dimension_room MAX_WIDTH MAX_COUNT MAX_DEGREE n s cells.now room.old first.old second.old sums.old }
+    ensures first_after { first.new ≡ dimension_first MAX_WIDTH MAX_COUNT MAX_DEGREE n s cells.now room.old first.old second.old sums.old }
+    ensures second_after { second.new ≡ dimension_second MAX_WIDTH MAX_COUNT MAX_DEGREE n s cells.now room.old first.old second.old sums.old }
+    ensures sums_after { sums.new ≡ dimension_sums MAX_WIDTH MAX_COUNT MAX_DEGREE n s cells.now room.old first.old second.old sums.old }
 {
     let known = decided(n, s, cells);
     match known {
@@ -85,7 +85,7 @@ pub fn quotient_dimension(
 
 // What the list alone decides.
 fn decided(n: usize, s: usize, cells: &[u16]) -> Checked
-    ensures { result ≡ list_answer n s cells.now }
+    ensures { result ≡ list_answer 255 60 65536 n s cells.now }
 {
     if MAX_WIDTH < n {
         return Checked::Refused(Refusal::Width);
@@ -147,6 +147,6 @@ fn dimension_in(
 {
     numerator_in(n, s, cells, room, first, second);
     let r = prefix_sum(Terms::Signed, n + 1, first, d, sums);
-    wipe_coefficients(first);
+    zero(first);
     r
 }

@@ -1,50 +1,38 @@
 // The engine: t^shift times the seed times the numerator of a list, added to the output modulo 2^64. The list is split,
 // N(I) = N(I + (p)) + t^deg(p) N(I : p): the second branch is done in place, in a loop; the first is copied behind the list and has fewer
 // monomials, so the depth is at most their number.
-mod branch;
-mod component;
-mod hints;
-pub(crate) mod inclusion;
-pub(crate) mod leaf;
-mod masks;
-pub(crate) mod minimal;
-pub(crate) mod narrow;
-mod pivot;
-pub(crate) mod quotients;
-
 ghost use Rattle.std.specs.Prelude.{◌≡◌, ◌+◌, ◌-◌, ◌*◌, ◌<◌, ◌≤◌, [], length, drop};
 ghost use Rattle.laws.specs.Coefficients.{coefficient, shift as shifted};
-ghost use Rattle.laws.specs.Coprime.{ShareNoVariable};
-ghost use Rattle.laws.specs.Seeded.{seeded};
-ghost use Rattle.passes.specs.Added.{AddedTo, Zeros};
-ghost use Rattle.passes.specs.Rows.{rows};
+ghost use Rattle.laws.proofs.Added.{AddedTo, Zeros};
+ghost use Rattle.laws.proofs.Rows.{rows};
+ghost use Rattle.laws.proofs.Seed.{seeded, Apart};
 
+use crate::branch::sum_branch;
 use crate::coefficients::trimmed_length;
-use crate::engine::branch::sum_branch;
-use crate::engine::component::split_component;
-use crate::engine::hints::hints_of;
-use crate::engine::inclusion::by_inclusion;
-use crate::engine::leaf::leaf;
-use crate::engine::minimal::colon;
-use crate::engine::pivot::choose;
+use crate::few::few;
+use crate::hints::look;
+use crate::leaf::leaf;
+use crate::minimal::colon;
+use crate::parts::regroup;
+use crate::pivot::choose;
 
 // A list of two parts: the seed times the numerator of the last a monomials is the seed of the first b. A function by itself, so that no
 // other frame holds the array.
-#[cycle(add_components_add_numerator)]
-fn add_components(
+#[cycle(add_numerator_parts)]
+fn parts(
     room: &mut [u16],
     n: usize,
     b: usize,
     a: usize,
     shift: usize,
     seed: &[i64],
-    component_depth: usize,
+    level: usize,
     out: &mut [i64],
     scratch: &mut [i64],
 )
-    requires n_in_bounds { ((a + b) * (a + b) * n ≤ length room.old) × (n ≤ 65536) × (0 < b) × (0 < a) × (component_depth ≤ 16) }
+    requires n_in_bounds { ((a + b) * (a + b) * n ≤ length room.old) × (n ≤ 65536) × (0 < b) × (0 < a) × (level ≤ 16) }
     requires scratch_len { (length scratch.old ≡ length out.old) × Zeros scratch.old × (shift ≤ length out.old) × (length out.old - shift ≤ 512) }
-    requires share_no_variable { ShareNoVariable (rows n b room.old) (rows n a (drop (b * n) room.old)) }
+    requires apart { Apart (rows n b room.old) (rows n a (drop (b * n) room.old)) }
     ensures added_to { AddedTo (shifted shift (seeded (coefficient seed.now) [] (rows n (b + a) room.old))) out.old out.new }
     ensures scratch_len_unchanged { (length scratch.new ≡ length scratch.old) × Zeros scratch.new }
 {
@@ -57,27 +45,27 @@ fn add_components(
         a,
         0,
         seed,
-        component_depth,
+        level,
         &mut q[..w],
         &mut scratch[..w],
     );
     let r = trimmed_length(&q[..w]);
-    add_numerator(room, n, b, shift, &q[..r], component_depth, out, scratch);
+    add_numerator(room, n, b, shift, &q[..r], level, out, scratch);
 }
 
 // t^shift times the seed times the numerator of m monomials, added to out, cut at its length; scratch is left at zero.
-#[cycle(add_components_add_numerator)]
+#[cycle(add_numerator_parts)]
 pub(crate) fn add_numerator(
     room: &mut [u16],
     n: usize,
     m: usize,
     shift: usize,
     seed: &[i64],
-    component_depth: usize,
+    level: usize,
     out: &mut [i64],
     scratch: &mut [i64],
 )
-    requires n_in_bounds { (m * m * n ≤ length room.old) × (n ≤ 65536) × (component_depth ≤ 16) }
+    requires n_in_bounds { (m * m * n ≤ length room.old) × (n ≤ 65536) × (level ≤ 16) }
     requires scratch_len { (length scratch.old ≡ length out.old) × Zeros scratch.old }
     ensures added_to { AddedTo (shifted shift (seeded (coefficient seed.now) [] (rows n m room.old))) out.old out.new }
     ensures scratch_len_unchanged { (length scratch.new ≡ length scratch.old) × Zeros scratch.new }
@@ -85,25 +73,15 @@ pub(crate) fn add_numerator(
     let mut left = m;
     let mut at = shift;
     while at < out.len() {
-        let h = hints_of(room, n, left, seed.len());
-        if h.by_inclusion {
-            by_inclusion(room, n, left, false, false, at, seed, out);
+        let h = look(room, n, left, seed.len());
+        if h.few {
+            few(room, n, left, false, false, at, seed, out);
             return;
         }
         let w = out.len() - at;
-        let b = split_component(room, n, left, h.component, component_depth, w);
+        let b = regroup(room, n, left, h.part, level, w);
         if b > 0 {
-            add_components(
-                room,
-                n,
-                b,
-                left - b,
-                at,
-                seed,
-                component_depth + 1,
-                out,
-                scratch,
-            );
+            parts(room, n, b, left - b, at, seed, level + 1, out, scratch);
             return;
         }
         let p = choose(room, n, left, h.v);
@@ -113,17 +91,8 @@ pub(crate) fn add_numerator(
         }
         let k = sum_branch(room, n, left, p.v, p.e);
         let base = left * n;
-        add_numerator(
-            &mut room[base..],
-            n,
-            k,
-            at,
-            seed,
-            component_depth,
-            out,
-            scratch,
-        );
-        left = colon(room, n, left, p.v, p.e, h.candidates);
+        add_numerator(&mut room[base..], n, k, at, seed, level, out, scratch);
+        left = colon(room, n, left, p.v, p.e, h.having);
         at += p.e as usize;
     }
 }

@@ -1,17 +1,17 @@
-// The value of the Hilbert function that a list of coefficients gives: the n-fold prefix sum of their positive parts less that of their
-// negative parts, of two-word numbers where they stand in the lent room, half of it for each. Both are held down to 2^127, so that a sum of
-// magnitudes that passes it anywhere is seen at the end.
-ghost use Rattle.std.specs.Prelude.{◌≡◌, ℕ, suc, ◌+◌, ◌*◌, ◌^◌, ◌<◌, ◌≤◌, length, replicate, nat_le, slice_set, unsigned_abs};
+// The value of the Hilbert function that a list of coefficients gives: their n-fold prefix sum modulo 2^128, of two-word numbers where they
+// stand in the lent room. Before it come the sums of the magnitudes, which are held down to 2^127, so that one that passes it anywhere is
+// seen at the end.
+ghost use Rattle.std.specs.Prelude.{◌≡◌, ℕ, suc, ◌+◌, ◌*◌, ◌^◌, ◌<◌, ◌≤◌, length, replicate, slice_set, unsigned_abs};
 ghost use Rattle.laws.specs.Coefficients.{coefficient};
 ghost use Rattle.laws.specs.Sums.{sum_below, sums as prefixSums};
-ghost use Rattle.words.specs.Wide.{value, wide};
+ghost use Rattle.numbers.specs.Wide.{value};
 ghost use Rattle.numbers.specs.Hilbert.{hilbert_answer, hilbert_room};
-ghost use Rattle.numbers.specs.HilbertParts.{number_at, held, kept, term_of};
+ghost use Rattle.numbers.specs.HilbertParts.{number_at, kept, term_of};
 
 use crate::coefficients::coeff;
+use crate::signed::magnitude;
+use crate::wide::Wide;
 use monomials::refusal::{MAX_WIDTH, Refusal};
-use words::signed::{negative_part, positive_part};
-use words::wide::{Wide, add_into};
 
 // The greatest degree at which the Hilbert function is asked for, and the greatest degree bound D of a dimension.
 pub const MAX_DEGREE: usize = 65536;
@@ -30,8 +30,8 @@ pub struct SignedAnswer {
 
 // The value at d of the Hilbert function in n variables that the coefficients give.
 pub fn hf_at(n: usize, coeffs: &[i64], d: usize, sums: &mut [u64]) -> SignedAnswer
-    ensures value { result ≡ hilbert_answer n coeffs.now d sums.old }
-    ensures sums_after { sums.new ≡ hilbert_room n d sums.old }
+    ensures value { result ≡ hilbert_answer MAX_WIDTH MAX_DEGREE n coeffs.now d sums.old }
+    ensures sums_after { sums.new ≡ hilbert_room MAX_WIDTH MAX_DEGREE n d sums.old }
 {
     if MAX_WIDTH < n {
         return refused(Refusal::Width);
@@ -44,13 +44,13 @@ pub fn hf_at(n: usize, coeffs: &[i64], d: usize, sums: &mut [u64]) -> SignedAnsw
     if sums.len() < asked {
         return refused(Refusal::SumRoom);
     }
-    let positive = prefix_sum(Terms::Positive, n, coeffs, d, &mut sums[..half]);
-    let negative = prefix_sum(Terms::Negative, n, coeffs, d, &mut sums[half..asked]);
-    if sum_is_large(positive, negative) {
+    let size = prefix_sum(Terms::Magnitudes, n, coeffs, d, &mut sums[..half]);
+    let value = prefix_sum(Terms::Signed, n, coeffs, d, &mut sums[..asked]);
+    if size.is_large() {
         return refused(Refusal::Value);
     }
     SignedAnswer {
-        outcome: SignedOutcome::Value(positive.wrapping_sub(negative)),
+        outcome: SignedOutcome::Value(value),
     }
 }
 
@@ -62,34 +62,11 @@ fn refused(refusal: Refusal) -> SignedAnswer
     }
 }
 
-// Whether a + b reaches 2^127.
-fn sum_is_large(a: Wide, b: Wide) -> bool
-    ensures { result ≡ nat_le (2 ^ 127) (value a + value b) }
-{
-    if a.is_large() {
-        return true;
-    }
-    if b.is_large() {
-        return true;
-    }
-    total_of(a, b).is_large()
-}
-
-// a + b modulo 2^128.
-fn total_of(a: Wide, b: Wide) -> Wide
-    ensures { result ≡ wide (value a + value b) }
-{
-    let mut total = a;
-    add_into(&mut total, b);
-    total
-}
-
-// What is summed: the coefficients modulo 2^128, or their positive or negative parts, held down to 2^127.
+// What is summed: the coefficients modulo 2^128, or their magnitudes, held down to 2^127.
 #[derive(Drop)]
 pub(crate) enum Terms {
     Signed,
-    Positive,
-    Negative,
+    Magnitudes,
 }
 
 // The n-fold prefix sum at d. The words are left at zero.
@@ -144,21 +121,13 @@ fn stage(terms: Terms, count: usize, words: &mut [u64])
     }
 }
 
-// a + b, as far as it is kept.
+// a + b. Of magnitudes, what has reached 2^127 stays as it is.
 fn add(terms: Terms, a: Wide, b: Wide) -> Wide
     ensures { kept terms (value result) ≡ kept terms (value a + value b) }
 {
-    match terms {
-        Terms::Signed => a.wrapping_add(b),
-        Terms::Positive => held_sum(a, b),
-        Terms::Negative => held_sum(a, b),
-    }
-}
-
-// a + b; what has reached 2^127 stays as it is.
-fn held_sum(a: Wide, b: Wide) -> Wide
-    ensures { held (value result) ≡ held (value a + value b) }
-{
+    let Terms::Magnitudes = terms else {
+        return a.wrapping_add(b);
+    };
     if a.is_large() {
         return a;
     }
@@ -194,8 +163,7 @@ fn term_of(terms: Terms, a: i64) -> Wide
 {
     match terms {
         Terms::Signed => Wide::from_signed(a),
-        Terms::Positive => Wide::from_word(positive_part(a)),
-        Terms::Negative => Wide::from_word(negative_part(a)),
+        Terms::Magnitudes => Wide::from_word(magnitude(a)),
     }
 }
 

@@ -3,16 +3,16 @@ ghost use Rattle.std.specs.Prelude.{◌≡◌, ◌-◌, ◌*◌, ◌≤◌, ◌+
 ghost use Rattle.laws.specs.Ideal.{listed};
 ghost use Rattle.laws.specs.Numerator.{numerator};
 ghost use Rattle.laws.specs.Room.{coefficients_asked};
-ghost use Rattle.monomials.specs.Limits.{max_width, max_count};
 ghost use Rattle.numbers.specs.Numerator.{numerator_answer, numerator_room, numerator_first, numerator_second};
 
-use crate::cells::wipe::{wipe_cells, wipe_coefficients};
+use crate::asked::{Rooms, checked_list};
 use crate::coefficients::trimmed_length;
 use crate::engine::add_numerator;
-use crate::engine::minimal::starting_list;
-use crate::engine::narrow::put_list;
-use crate::sizes::asked::{Rooms, checked_list};
-use monomials::refusal::Refusal;
+use crate::leaf::zero;
+use crate::masks::starting_list;
+use crate::narrow::put_list;
+use crate::rows::wipe;
+use monomials::refusal::{MAX_COUNT, MAX_WIDTH, Refusal};
 
 // How many coefficients, or why there are none.
 #[derive(Drop)]
@@ -36,10 +36,10 @@ pub fn hilbert_numerator(
     first: &mut [i64],
     second: &mut [i64],
 ) -> LengthAnswer
-    ensures value { result ≡ numerator_answer n s cells.now room.old first.old second.old }
-    ensures room_after { room.new ≡ numerator_room n s cells.now room.old first.old second.old }
-    ensures first_after { first.new ≡ numerator_first n s cells.now room.old first.old second.old }
-    ensures second_after { second.new ≡ numerator_second n s cells.now room.old first.old second.old }
+    ensures value { result ≡ numerator_answer MAX_WIDTH MAX_COUNT n s cells.now room.old first.old second.old }
+    ensures room_after { room.new ≡ numerator_room MAX_WIDTH MAX_COUNT n s cells.now room.old first.old second.old }
+    ensures first_after { first.new ≡ numerator_first MAX_WIDTH MAX_COUNT n s cells.now room.old first.old second.old }
+    ensures second_after { second.new ≡ numerator_second MAX_WIDTH MAX_COUNT n s cells.now room.old first.old second.old }
 {
     let rooms = checked_list(n, s, cells, room.len(), first.len(), second.len());
     match rooms {
@@ -80,7 +80,7 @@ pub(crate) fn numerator_in(
     first: &mut [i64],
     second: &mut [i64],
 ) -> usize
-    requires cells_len { (length cells.now ≡ s * n) × (n ≤ max_width) × (s ≤ max_count) × (s * s * n ≤ length room.old) }
+    requires cells_len { (length cells.now ≡ s * n) × (n ≤ 255) × (s ≤ 60) × (s * s * n ≤ length room.old) }
     requires first_len { (length first.old ≡ coefficients_asked (listed n s cells.now)) × (length second.old ≡ length first.old) }
     ensures value { (result ≡ length (numerator (listed n s cells.now))) × (room.new ≡ replicate (length room.old) 0) }
     ensures first_after { first.new ≡ numerator (listed n s cells.now) ++ replicate (length first.old - length (numerator (listed n s cells.now))) (pos 0) }
@@ -88,10 +88,10 @@ pub(crate) fn numerator_in(
 {
     let w = put_list(room, n, s, cells);
     let m = starting_list(room, w, s);
-    wipe_coefficients(first);
-    wipe_coefficients(second);
+    zero(first);
+    zero(second);
     let one = [1i64; 1];
     add_numerator(room, w, m, 0, &one, 0, first, second);
-    wipe_cells(room);
+    wipe(room);
     trimmed_length(first)
 }

@@ -3,12 +3,13 @@ ghost use Rattle.std.specs.Prelude.{◌≡◌, ℕ, ◌*◌, ◌<◌, ◌≤◌,
 ghost use Rattle.laws.specs.Dimension.{pure_power, lesser as lesserOf};
 ghost use Rattle.laws.specs.Ideal.{listed, unit_in};
 ghost use Rattle.numbers.specs.DimensionParts.{Cells, BoundOf, bound_answer};
-ghost use Rattle.words.specs.Wide.{product_outcome};
+ghost use Rattle.numbers.specs.Wide.{product_answer};
 
-use crate::cells::rows::{degree, row};
 use crate::hf_at::MAX_DEGREE;
+use crate::leaf::degree;
+use crate::rows::row;
+use crate::wide::{Product, Wide};
 use monomials::refusal::{MAX_WIDTH, Refusal};
-use words::wide::{ProductOutcome, Wide};
 
 // The degree bound, a dimension that is known without it, or a refusal.
 #[derive(Drop)]
@@ -36,19 +37,19 @@ pub(crate) fn has_unit(n: usize, s: usize, cells: &[u16]) -> bool
 // The degree bound, unless there is no dimension or the product of the least powers reaches 2^127.
 pub(crate) fn checked_bound(n: usize, s: usize, cells: &[u16]) -> Checked
     requires { Cells n s cells.now }
-    ensures { result ≡ bound_answer n (listed n s cells.now) }
+    ensures { result ≡ bound_answer 65536 n (listed n s cells.now) }
 {
     let mut powers = [0u16; MAX_WIDTH];
     let mut i = s;
     while 0 < i {
         i -= 1;
-        lower_powers(row(cells, n, i), &mut powers);
+        take_in(row(cells, n, i), &mut powers);
     }
     bound_of(n, &powers)
 }
 
 // The least power of each variable, 0 where it has none, once the monomial m is in the list too.
-fn lower_powers(m: &[u16], powers: &mut [u16])
+fn take_in(m: &[u16], powers: &mut [u16])
     requires { (length m.now ≤ 65536) × (length m.now ≤ length powers.old) }
     ensures { (v : ℕ) → v < length m.now → slice_index powers.new v ≡ lesserOf (pure_power m.now v) (slice_index powers.old v) }
 {
@@ -79,10 +80,10 @@ fn lesser(d: usize, x: u16, y: u16) -> u16
 // The degree bound by the least powers of the n variables.
 fn bound_of(n: usize, powers: &[u16]) -> Checked
     requires { (n ≤ length powers.now) × (n ≤ 65536) }
-    ensures { BoundOf n powers.now result }
+    ensures { BoundOf 65536 n powers.now result }
 {
     let mut d: usize = 0;
-    let mut product = ProductOutcome::Exact(Wide::ONE);
+    let mut product = Product::Exact(Wide::ONE);
     let mut v: usize = 0;
     while v < n {
         let x = powers[v];
@@ -96,22 +97,19 @@ fn bound_of(n: usize, powers: &[u16]) -> Checked
     if MAX_DEGREE < d {
         return Checked::Refused(Refusal::Dimension);
     }
-    let ProductOutcome::Exact(_) = product else {
+    let Product::Exact(_) = product else {
         return Checked::Refused(Refusal::Value);
     };
     Checked::Bound(d)
 }
 
 // The product with x, which is not 0: one that passed 2^127 stays so.
-fn times(product: ProductOutcome, x: u16) -> ProductOutcome
+fn times(product: Product, x: u16) -> Product
     requires { x ≢ 0 }
-    ensures { (q : ℕ) → product ≡ product_outcome q → result ≡ product_outcome (x * q) }
+    ensures { (q : ℕ) → product ≡ product_answer q → result ≡ product_answer (x * q) }
 {
     match product {
-        ProductOutcome::Exact(w) => {
-            let answer = w.times(x as u64);
-            answer.outcome
-        }
-        ProductOutcome::Passed => ProductOutcome::Passed,
+        Product::Exact(w) => w.times(x as u64),
+        Product::Passed => Product::Passed,
     }
 }

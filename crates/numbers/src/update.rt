@@ -5,21 +5,20 @@ ghost use Rattle.laws.specs.Coefficients.{coefficient};
 ghost use Rattle.laws.specs.Ideal.{listed};
 ghost use Rattle.laws.specs.Numerator.{update};
 ghost use Rattle.laws.specs.Room.{update_asked};
-ghost use Rattle.monomials.specs.Limits.{max_count, max_coefficient};
-ghost use Rattle.laws.specs.Seeded.{growth};
-ghost use Rattle.passes.specs.Added.{AddedTo, Zeros};
-ghost use Rattle.passes.specs.Sizes.{both};
+ghost use Rattle.laws.proofs.Added.{AddedTo, Zeros};
+ghost use Rattle.laws.proofs.Asked.{both};
+ghost use Rattle.laws.proofs.Grown.{grown};
 ghost use Rattle.numbers.specs.Update.{beyond as beyondOf, update_answer, update_room, update_first, update_second};
 
-use crate::cells::rows::{degree, row};
-use crate::cells::wipe::{wipe_cells, wipe_coefficients};
+use crate::asked::{Rooms, checked};
 use crate::coefficients::trimmed_length;
 use crate::engine::add_numerator;
-use crate::engine::leaf::add_shifted;
-use crate::engine::quotients::quotients;
+use crate::leaf::{add_shifted, degree, zero};
 use crate::numerator::{LengthAnswer, LengthOutcome, refused};
-use crate::sizes::asked::{Rooms, checked};
-use words::signed::magnitude;
+use crate::quotients::quotients;
+use crate::rows::{row, wipe};
+use crate::signed::magnitude;
+use monomials::refusal::{MAX_COUNT, MAX_WIDTH};
 
 // The greatest magnitude of a given coefficient: 2^61.
 pub const MAX_COEFFICIENT: u64 = 2305843009213693952;
@@ -37,10 +36,10 @@ pub fn add_generators(
     first: &mut [i64],
     second: &mut [i64],
 ) -> LengthAnswer
-    ensures value { result ≡ update_answer n given.now s0 existing.now s1 added.now room.old first.old second.old }
-    ensures room_after { room.new ≡ update_room n given.now s0 existing.now s1 added.now room.old first.old second.old }
-    ensures first_after { first.new ≡ update_first n given.now s0 existing.now s1 added.now room.old first.old second.old }
-    ensures second_after { second.new ≡ update_second n given.now s0 existing.now s1 added.now room.old first.old second.old }
+    ensures value { result ≡ update_answer MAX_WIDTH MAX_COUNT MAX_COEFFICIENT n given.now s0 existing.now s1 added.now room.old first.old second.old }
+    ensures room_after { room.new ≡ update_room MAX_WIDTH MAX_COUNT MAX_COEFFICIENT n given.now s0 existing.now s1 added.now room.old first.old second.old }
+    ensures first_after { first.new ≡ update_first MAX_WIDTH MAX_COUNT MAX_COEFFICIENT n given.now s0 existing.now s1 added.now room.old first.old second.old }
+    ensures second_after { second.new ≡ update_second MAX_WIDTH MAX_COUNT MAX_COEFFICIENT n given.now s0 existing.now s1 added.now room.old first.old second.old }
 {
     let rooms = checked(
         n,
@@ -79,7 +78,7 @@ pub fn add_generators(
 
 // Whether a given coefficient is greater than MAX_COEFFICIENT in magnitude.
 fn beyond(given: &[i64]) -> bool
-    ensures { result ≡ beyondOf given.now }
+    ensures { result ≡ beyondOf MAX_COEFFICIENT given.now }
 {
     let mut k: usize = 0;
     while k < given.len() {
@@ -105,7 +104,7 @@ fn add_each(
 )
     requires xs_len { (length xs.now ≡ s * n) × (t * n ≤ length ys.now) × (n ≤ 65536) × (s + t ≤ 4096) × ((s + t) * (s + t) * n ≤ length room.old) }
     requires second_len { (length second.old ≡ length first.old) × Zeros second.old }
-    ensures added_to { AddedTo (growth (listed n s xs.now) (listed n t ys.now)) first.old first.new }
+    ensures added_to { AddedTo (grown (listed n s xs.now) (listed n t ys.now)) first.old first.new }
     ensures second_len_unchanged { (length second.new ≡ length second.old) × Zeros second.new }
 {
     let minus = [-1i64; 1];
@@ -130,16 +129,16 @@ fn update_in(
     first: &mut [i64],
     second: &mut [i64],
 ) -> usize
-    requires existing_len { (length existing.now ≡ s0 * n) × (length added.now ≡ s1 * n) × (n ≤ 65536) × (s0 + s1 ≤ max_count) × ((s0 + s1) * (s0 + s1) * n ≤ length room.old) }
-    requires first_len { (length first.old ≡ update_asked given.now (both n s0 existing.now s1 added.now)) × (length second.old ≡ length first.old) × ((k : ℕ) → unsigned_abs (coefficient given.now k) ≤ max_coefficient) }
+    requires existing_len { (length existing.now ≡ s0 * n) × (length added.now ≡ s1 * n) × (n ≤ 65536) × (s0 + s1 ≤ 60) × ((s0 + s1) * (s0 + s1) * n ≤ length room.old) }
+    requires first_len { (length first.old ≡ update_asked given.now (both n s0 existing.now s1 added.now)) × (length second.old ≡ length first.old) × ((k : ℕ) → unsigned_abs (coefficient given.now k) ≤ 2 ^ 61) }
     ensures value { (result ≡ length (update given.now (listed n s0 existing.now) (listed n s1 added.now))) × (room.new ≡ replicate (length room.old) 0) }
     ensures first_after { first.new ≡ update given.now (listed n s0 existing.now) (listed n s1 added.now) ++ replicate (length first.old - length (update given.now (listed n s0 existing.now) (listed n s1 added.now))) (pos 0) }
     ensures second_after { second.new ≡ replicate (length second.old) (pos 0) }
 {
-    wipe_coefficients(first);
-    wipe_coefficients(second);
+    zero(first);
+    zero(second);
     add_shifted(first, 0, given, false);
     add_each(n, s0, existing, s1, added, room, first, second);
-    wipe_cells(room);
+    wipe(room);
     trimmed_length(first)
 }

@@ -23,9 +23,8 @@ use Rattle.laws.specs.Ideal.{In, unit_in}
 use Rattle.laws.proofs.Monomial.{or_right, not-true as if_not}
 use Rattle.laws.proofs.Dimension.{finite_power}
 use Rattle.laws.proofs.Ideal.{unit_member}
-use Rattle.monomials.specs.Limits.{max_width, max_count, max_degree, max_coefficient}
 use Rattle.numbers.specs.Dimension.{no_dimension}
-use Rattle.monomials.specs.List.{list_checks}
+use Rattle.numbers.specs.Numerator.{list_checks}
 use Rattle.numbers.specs.Update.{beyond}
 use Rattle.monomials.specs.Monomial.{at_most}
 use Rattle.monomials.specs.Refusal.{number, Check, refusal, after}
@@ -59,7 +58,7 @@ pub first_exactly : {rs : List Rule} {j : ℕ} → First rs j → (k : ℕ) → 
 first_exactly {rs} {j} p k = (λ e. rw e at p, λ q. first_unique rs j k p.decided q.decided)
 
 -- 2, where check 1 passes and check 2 does not
-pub too_many_lem : {n s k : ℕ} {rs : List Rule} → First ((max_width < n, 1) ∷ (max_count < s, 2) ∷ rs) k → n ≤ max_width → max_count < s → k ≡ 2
+pub too_many_lem : {n s k : ℕ} {rs : List Rule} → First ((255 < n, 1) ∷ (60 < s, 2) ∷ rs) k → n ≤ 255 → 60 < s → k ≡ 2
 too_many_lem f w m = (first_exactly f 2).1 (record { decided = inr (λ h. omega arith, inl (m, refl)) })
 
 -- tests and conditions
@@ -129,10 +128,10 @@ cons_first false q cs f g = record { decided = inr (λ h. false≢true (f.1 h), 
 
 -- checks 1, 2 and 3 of a list
 pub list_first : (n s : ℕ) (cells : List ℕ) (ds : List Check) {qs : List Rule} → First qs (status (refusal ds))
-    → First ((max_width < n, 1) ∷ (max_count < s, 2) ∷ (length cells ≢ s * n, 3) ∷ qs) (status (refusal (list_checks n s cells ++ ds)))
+    → First ((255 < n, 1) ∷ (60 < s, 2) ∷ (length cells ≢ s * n, 3) ∷ qs) (status (refusal (list_checks 255 60 n s cells ++ ds)))
 list_first n s cells ds f =
-    cons_first (ltb max_width n) Width (drop 1 (list_checks n s cells ++ ds)) (above max_width n)
-    (cons_first (ltb max_count s) Count (drop 2 (list_checks n s cells ++ ds)) (above max_count s)
+    cons_first (ltb 255 n) Width (drop 1 (list_checks 255 60 n s cells ++ ds)) (above 255 n)
+    (cons_first (ltb 60 s) Count (drop 2 (list_checks 255 60 n s cells ++ ds)) (above 60 s)
     (cons_first (not (eqb (length cells) (s * n))) Cells ds (differs (length cells) (s * n)) f))
 
 -- two conditions under which nothing more is looked at
@@ -184,9 +183,9 @@ not_divides [] a = nowhere (λ v h. omega arith)
 not_divides (y ∷ b) [] = rw (not_both (leb y 0) (divides b [])) (somewhere (not (leb y 0)) (not (divides b [])) (above_not y 0) (not_divides b []))
 not_divides (y ∷ b) (x ∷ a) = rw (not_both (leb y x) (divides b a)) (somewhere (not (leb y x)) (not (divides b a)) (above_not y x) (not_divides b a))
 
-pub coefficient_beyond : (G : List ℤ) → (beyond G ≡ true) ↔ ((k : ℕ) × (max_coefficient < nat_abs (coefficient G k)))
-coefficient_beyond [] = nowhere (λ k h. omega arith)
-coefficient_beyond (z ∷ G) = somewhere (ltb max_coefficient (nat_abs z)) (beyond G) (above max_coefficient (nat_abs z)) (coefficient_beyond G)
+pub coefficient_beyond : (M : ℕ) (G : List ℤ) → (beyond M G ≡ true) ↔ ((k : ℕ) × (M < nat_abs (coefficient G k)))
+coefficient_beyond M [] = nowhere (λ k h. omega arith)
+coefficient_beyond M (z ∷ G) = somewhere (ltb M (nat_abs z)) (beyond M G) (above M (nat_abs z)) (coefficient_beyond M G)
 
 pub unit_in_lem : (L : List (List ℕ)) → (unit_in L ≡ true) ↔ ((m : List ℕ) × In m L × (degree m ≡ 0))
 unit_in_lem L = (unit_member L, λ h. there L h.0 h.1 h.2)
@@ -208,5 +207,5 @@ no_power n L = (missing n, λ h. ap not (if_not (finite n L) (λ f. finite_power
         go true e f = (n, omega arith, eqb-true (least_power L n) 0 e)
         go false e f = let (v, l, p) = f (rw e at h) in (v, omega arith, p)
 
-pub no_dimension_lem : (n : ℕ) (L : List (List ℕ)) → (no_dimension n L ≡ true) ↔ (((v : ℕ) × (v < n) × (least_power L v ≡ 0)) ⊎ (max_degree < degree_bound n L))
-no_dimension_lem n L = either (not (finite n L)) (ltb max_degree (degree_bound n L)) (no_power n L) (above max_degree (degree_bound n L))
+pub no_dimension_lem : (M n : ℕ) (L : List (List ℕ)) → (no_dimension M n L ≡ true) ↔ (((v : ℕ) × (v < n) × (least_power L v ≡ 0)) ⊎ (M < degree_bound n L))
+no_dimension_lem M n L = either (not (finite n L)) (ltb M (degree_bound n L)) (no_power n L) (above M (degree_bound n L))

@@ -35,23 +35,23 @@ use Rattle.laws.proofs.Coefficients.{trimmed_unique}
 use Rattle.laws.proofs.Counting.{numerator_unique}
 use Rattle.laws.proofs.Dimension.{power_finite, standards_once, standards_other, standards_width, dimension_bound, dimension_unit}
 use Rattle.laws.proofs.Enumeration.{in_occurrences, occurrences_in, enumeration_once, enumeration_other_degree, enumeration_other_width}
+use Rattle.laws.proofs.Grown.{listed_append}
 use Rattle.laws.proofs.Hilbert.{hilbert_numerator, hilbert_sums}
-use Rattle.laws.proofs.Ideal.{listed_within, within_append, unit_all, listed_append}
+use Rattle.laws.proofs.Ideal.{listed_within, within_append, unit_all}
 use Rattle.laws.proofs.Numerator.{numerator_trimmed, numerator_coefficient}
 use Rattle.laws.proofs.Pigeonhole.{pigeonhole, once_distinct}
 use Rattle.laws.proofs.Sums.{sums_injective}
 use Rattle.laws.proofs.Update.{update_coefficient, update_trimmed, update_direct}
 use Rattle.laws.proofs.Word.{pair_words}
-use Rattle.monomials.specs.Limits.{max_width, max_count, max_degree}
 use Rattle.monomials.specs.Refusal.{Check, refusal, after}
 use Rattle.monomials.specs.declared.refusal.Refusal.{Refusal}
 use Rattle.monomials.specs.declared.refusal.Refusal.TheVariants.{Width, Count, Cells, SumRoom, Degree, Value, Record, Dimension, Output}
-use Rattle.words.specs.Wide.{value, wide, wide_of, signed_value}
+use Rattle.numbers.specs.Wide.{value, wide, wide_of, signed_value}
 use Rattle.numbers.specs.Dimension.{dimension_is, at_once, no_dimension, bound_checks, room_checks, dimension_checks}
 use Rattle.numbers.specs.Hilbert.{signed_answer, value_check, hilbert_checks}
 use Rattle.numbers.specs.Numerator.{length_answer, padded, numerator_checks}
 use Rattle.numbers.specs.Update.{update_checks}
-use Rattle.words.specs.declared.wide.Wide.{Wide}
+use Rattle.numbers.specs.declared.wide.Wide.{Wide}
 use Rattle.numbers.specs.declared.dimension.Dimension.{Dimension as DimensionValue}
 use Rattle.numbers.specs.declared.dimension.DimensionOutcome.{DimensionOutcome}
 use Rattle.numbers.specs.declared.dimension.DimensionAnswer.{DimensionAnswer}
@@ -59,12 +59,12 @@ use Rattle.numbers.specs.declared.hf_at.SignedOutcome.{SignedOutcome}
 use Rattle.numbers.specs.declared.hf_at.SignedAnswer.{SignedAnswer}
 use Rattle.numbers.specs.declared.numerator.LengthOutcome.{LengthOutcome}
 use Rattle.numbers.specs.declared.numerator.LengthAnswer.{LengthAnswer}
-use Rattle.numbers.proofs.HilbertValue.{hilbert_exact}
+use Rattle.numbers.proofs.SignedValue.{hilbert_exact}
 use Rattle.numbers.proofs.numerator.hilbert_numerator.Reads as hilbert_numerator
 use Rattle.numbers.proofs.update.add_generators.Reads as add_generators
 use Rattle.numbers.proofs.hf_at.hf_at.Reads as hf_at
 use Rattle.numbers.proofs.dimension.quotient_dimension.Reads as quotient_dimension
-use Rattle.records.specs.Answer.{answer_of, answer_size}
+use Rattle.records.specs.Answer.{answer_of}
 use Rattle.records.specs.Host.{own_cells, own_coefficients, own_words, host_checks}
 use Rattle.records.proofs.host.purlthicket_dim.Reads as purlthicket_dim
 use Rattle.promises.specs.Promise.{Slice, ◌⨾◌, Signed64}
@@ -98,7 +98,7 @@ counted s t a b cs e =
 -- A list within the limits, with the rooms as asked, is not refused.
 pub numerator_given : (κs : Lfts 4) (n s : ℕ) (cells room : Slice ℕ) (first second : Slice ℤ) (r : LengthAnswer) (room' : Slice ℕ) (first' second' : Slice ℤ)
     → hilbert_numerator.Post κs (n ⨾ s ⨾ cells ⨾ room ⨾ first ⨾ second ⨾ tt) r (n ⨾ s ⨾ cells ⨾ room' ⨾ first' ⨾ second' ⨾ tt)
-    → n ≤ max_width → s ≤ max_count → length cells.now ≡ s * n
+    → n ≤ 255 → s ≤ 60 → length cells.now ≡ s * n
     → cells_asked n (listed n s cells.now) ≤ length room.now
     → coefficients_asked (listed n s cells.now) ≤ length first.now
     → coefficients_asked (listed n s cells.now) ≤ length second.now
@@ -113,7 +113,7 @@ module _ (κs : Lfts 4) (n s : ℕ) (cells room : Slice ℕ) (first second : Sli
   there : (length (numerator (listed n s cells.now)) ≡ k) × (take k first'.now ≡ numerator (listed n s cells.now))
   there =
       let L : List (List ℕ) = listed n s cells.now in
-      let o = refusal (numerator_checks n s cells.now room.now first.now second.now) in
+      let o = refusal (numerator_checks 255 60 n s cells.now room.now first.now second.now) in
       let e = coefficients_there o (numerator L) first.now (coefficients_asked L) k (ap (λ (a : LengthAnswer). a.outcome) (sym outcome.0) ∙ answer) in
       (e.0, ap (take k) outcome.1.1.0 ∙ e.1)
 
@@ -152,9 +152,9 @@ module _ (κs : Lfts 6) (n : ℕ) (given : Slice ℤ) (s0 : ℕ) (existing : Sli
   updated =
       let L : List (List ℕ) = listed n s0 existing.now in
       let K : List (List ℕ) = listed n s1 added.now in
-      let cs = update_checks n given.now s0 existing.now s1 added.now room.now first.now second.now in
+      let cs = update_checks 255 60 (2 ^ 61) n given.now s0 existing.now s1 added.now room.now first.now second.now in
       let e = coefficients_there (refusal cs) (update given.now L K) first.now (update_asked given.now (L ++ K)) k (ap (λ (a : LengthAnswer). a.outcome) (sym outcome.0) ∙ answer) in
-      (e.0, ap (take k) outcome.1.1.0 ∙ e.1, counted (ltb max_width n) (ltb max_count (s0 + s1)) (length existing.now) (s0 * n) (drop 3 cs) e.2)
+      (e.0, ap (take k) outcome.1.1.0 ∙ e.1, counted (ltb 255 n) (ltb 60 (s0 + s1)) (length existing.now) (s0 * n) (drop 3 cs) e.2)
 
   -- "The answer is G + N(existing and new) − N(existing), trimmed."
   pub update_adds : let L = listed n s0 existing.now in let K = listed n s1 added.now in
@@ -209,8 +209,8 @@ module _ (κs : Lfts 2) (n : ℕ) (given : Slice ℤ) (d : ℕ) (sums : Slice �
   pub hf_at_value : Signed64 given.now → signed_value w ≡ hilbert given.now n d
   hf_at_value fits =
       let p = given.now in
-      let (o, e) = signed_there (refusal (hilbert_checks n p d sums.now)) (hilbert p n d) w (ap (λ (a : SignedAnswer). a.outcome) (sym outcome.0) ∙ answer) in
-      let small = leb-false (2 ^ 127) (hilbert_size p n d) (last_passes (ltb max_width n) (ltb max_degree d) (ltb (length sums.now) (4 * (d + 1))) (leb (2 ^ 127) (hilbert_size p n d)) o) in
+      let (o, e) = signed_there (refusal (hilbert_checks 255 65536 n p d sums.now)) (hilbert p n d) w (ap (λ (a : SignedAnswer). a.outcome) (sym outcome.0) ∙ answer) in
+      let small = leb-false (2 ^ 127) (hilbert_size p n d) (last_passes (ltb 255 n) (ltb 65536 d) (ltb (length sums.now) (4 * (d + 1))) (leb (2 ^ 127) (hilbert_size p n d)) o) in
       ap signed_value (sym e) ∙ hilbert_exact p n d (fits d) small
 
 -- each monomial in n variables that is no multiple of L stands in us exactly once, and nothing else does
@@ -246,36 +246,36 @@ dimension_value n L (inl h) = rw (dimension_unit n L h)
 dimension_value n L (inr h) = pair_words (2 ^ 64) (lit< tt) (dimension n L) ∙ mod-eq_of_lt (le_trans (suc-le-suc (dimension_bound n L h.0)) (le_trans h.1 (lit≤ tt)))
 
 -- what checks 13 and 11 leave
-bounded : (n : ℕ) (L : List (List ℕ)) (cs : List Check) → refusal (bound_checks n L ++ cs) ≡ none → Finite n L
-bounded n L cs e =
-    let first = passes (no_dimension n L) Dimension (value_check (powers_product n L) ∷ cs) e in
+bounded : (M n : ℕ) (L : List (List ℕ)) (cs : List Check) → refusal (bound_checks M n L ++ cs) ≡ none → Finite n L
+bounded M n L cs e =
+    let first = passes (no_dimension M n L) Dimension (value_check (powers_product n L) ∷ cs) e in
     let second = passes (leb (2 ^ 127) (powers_product n L)) Value cs first.1 in
-    inr (or_left (finite n L) (ltb max_degree (degree_bound n L)) first.0, leb-false (2 ^ 127) (powers_product n L) second.0)
+    inr (or_left (finite n L) (ltb M (degree_bound n L)) first.0, leb-false (2 ^ 127) (powers_product n L) second.0)
   where
     or_left : (a b : Bool) → (not a || b) ≡ false → a ≡ true
     or_left true b h = refl
     or_left false b h = absurd (false≢true (sym h))
 
-accepted : (n s : ℕ) (cells room : List ℕ) (p q : List ℤ) (sums : List ℕ) → refusal (dimension_checks n s cells room p q sums) ≡ none → Finite n (listed n s cells)
+accepted : (n s : ℕ) (cells room : List ℕ) (p q : List ℤ) (sums : List ℕ) → refusal (dimension_checks 255 60 65536 n s cells room p q sums) ≡ none → Finite n (listed n s cells)
 accepted n s cells room p q sums e =
-    let cs = dimension_checks n s cells room p q sums in
-    let wide = passes (ltb max_width n) Width (drop 1 cs) e in
-    let many = passes (ltb max_count s) Count (drop 2 cs) wide.1 in
+    let cs = dimension_checks 255 60 65536 n s cells room p q sums in
+    let wide = passes (ltb 255 n) Width (drop 1 cs) e in
+    let many = passes (ltb 60 s) Count (drop 2 cs) wide.1 in
     let rest = (passes (not (eqb (length cells) (s * n))) Cells (drop 3 cs) many.1).1 in
     go (unit_in (listed n s cells)) (eqb n 0) refl refl rest
   where
     go : (t z : Bool) → unit_in (listed n s cells) ≡ t → eqb n 0 ≡ z
-        → refusal (cond (t || z) [] (bound_checks n (listed n s cells) ++ room_checks n (listed n s cells) room p q sums)) ≡ none → Finite n (listed n s cells)
+        → refusal (cond (t || z) [] (bound_checks 65536 n (listed n s cells) ++ room_checks n (listed n s cells) room p q sums)) ≡ none → Finite n (listed n s cells)
     go true z h g o = inl h
     go false true h g o = inr (none_needed n (listed n s cells) (eqb-true n 0 g))
       where
         none_needed : (n : ℕ) (L : List (List ℕ)) → n ≡ 0 → (finite n L ≡ true) × (powers_product n L < 2 ^ 127)
         none_needed zero L i = (refl, lit< tt)
         none_needed (suc n) L i = absurd (omega arith)
-    go false false h g o = bounded n (listed n s cells) (room_checks n (listed n s cells) room p q sums) o
+    go false false h g o = bounded 65536 n (listed n s cells) (room_checks n (listed n s cells) room p q sums) o
 
-bounded_by : (n : ℕ) (L : List (List ℕ)) → finite n L ≡ true → degree_bound n L ≤ max_degree → no_dimension n L ≡ false
-bounded_by n L f b = rw (f, le-ltb max_degree (degree_bound n L) b)
+bounded_by : (M n : ℕ) (L : List (List ℕ)) → finite n L ≡ true → degree_bound n L ≤ M → no_dimension M n L ≡ false
+bounded_by M n L f b = rw (f, le-ltb M (degree_bound n L) b)
 
 dimension_there : (o : Option Refusal) (n : ℕ) (L : List (List ℕ)) (x : DimensionValue) → (dimension_is o n L).outcome ≡ DimensionOutcome.Value x
     → (o ≡ none) × (wide (dimension n L) ≡ x.dimension) × (top_degree n L ≡ x.top)
@@ -286,10 +286,10 @@ dimension_there (some r) n L x e = let z : ◌≡◌ {A = ℕ} 0 1 = cc in absur
 -- nothing more.
 pub dimension_given : (κs : Lfts 5) (n s : ℕ) (cells room : Slice ℕ) (first second : Slice ℤ) (sums : Slice ℕ) (r : DimensionAnswer) (room' : Slice ℕ) (first' second' : Slice ℤ) (sums' : Slice ℕ)
     → quotient_dimension.Post κs (n ⨾ s ⨾ cells ⨾ room ⨾ first ⨾ second ⨾ sums ⨾ tt) r (n ⨾ s ⨾ cells ⨾ room' ⨾ first' ⨾ second' ⨾ sums' ⨾ tt)
-    → n ≤ max_width → s ≤ max_count → length cells.now ≡ s * n
+    → n ≤ 255 → s ≤ 60 → length cells.now ≡ s * n
     → (at_once n (listed n s cells.now) ≡ false
     → ((v : ℕ) → v < n → least_power (listed n s cells.now) v ≢ 0)
-    × (degree_bound n (listed n s cells.now) ≤ max_degree)
+    × (degree_bound n (listed n s cells.now) ≤ 65536)
     × (powers_product n (listed n s cells.now) < 2 ^ 127)
     × (cells_asked n (listed n s cells.now) ≤ length room.now)
     × (coefficients_asked (listed n s cells.now) ≤ length first.now)
@@ -301,7 +301,7 @@ dimension_given κs n s cells room first second sums r room' first' second' sums
     let none-refused = dimension_done n s cells.now room.now first.now second.now sums.now w m i
     (λ once.
     let (p, b, c, d, e, f, g) = enough once in
-    (bounded_by n L (power_finite n L p) b, c, d, e, f, g)) in (
+    (bounded_by 65536 n L (power_finite n L p) b, c, d, e, f, g)) in (
       record { dimension = wide (dimension n L); top = top_degree n L },
       ap (λ (y : DimensionAnswer). y.outcome) outcome.0 ∙ ap (λ (o : Option Refusal). (dimension_is o n L).outcome) none-refused,
     )
@@ -312,7 +312,7 @@ module _ (κs : Lfts 5) (n s : ℕ) (cells room : Slice ℕ) (first second : Sli
   given_dimension : Finite n (listed n s cells.now) × (wide (dimension n (listed n s cells.now)) ≡ x.dimension) × (top_degree n (listed n s cells.now) ≡ x.top)
   given_dimension =
       let L : List (List ℕ) = listed n s cells.now in
-      let (o, e, t) = dimension_there (refusal (dimension_checks n s cells.now room.now first.now second.now sums.now)) n L x (ap (λ (a : DimensionAnswer). a.outcome) (sym outcome.0) ∙ answer) in
+      let (o, e, t) = dimension_there (refusal (dimension_checks 255 60 65536 n s cells.now room.now first.now second.now sums.now)) n L x (ap (λ (a : DimensionAnswer). a.outcome) (sym outcome.0) ∙ answer) in
       (accepted n s cells.now room.now first.now second.now sums.now o, e, t)
 
   -- "A dimension is the count of all such monomials": the length of a list that has each of them exactly once and nothing else.
@@ -336,13 +336,13 @@ module _ (κs : Lfts 5) (n s : ℕ) (cells room : Slice ℕ) (first second : Sli
 -- The host's answer record carries that number, for what the ideal record lists.
 module _ (κs : Lfts 2) (rec out : Slice ℕ) (r : ℕ) (out' : Slice ℕ) (outcome : purlthicket_dim.Post κs (rec ⨾ out ⨾ tt) r (rec ⨾ out' ⨾ tt)) (done : r ≡ 0) where
   pub host_counts : let n = width_in rec.now in let L = list_in rec.now in
-      Standards n L (standards n L) × (out'.now ≡ answer_record 0 (length (standards n L)) (top_degree n L) ++ drop answer_size out.now)
+      Standards n L (standards n L) × (out'.now ≡ answer_record 0 (length (standards n L)) (top_degree n L) ++ drop 26 out.now)
   host_counts =
-      let cs = host_checks rec.now out.now in
+      let cs = host_checks 255 60 65536 26 rec.now out.now in
       let n = width_in rec.now in
       let L : List (List ℕ) = list_in rec.now in
-      let room = passes (ltb (length out.now) answer_size) Output (drop 1 cs) (done_none (refusal cs) (sym outcome.0 ∙ done)) in
-      let taken = passes (not (is_record max_count rec.now)) Record (drop 2 cs) room.1 in
+      let room = passes (ltb (length out.now) 26) Output (drop 1 cs) (done_none (refusal cs) (sym outcome.0 ∙ done)) in
+      let taken = passes (not (is_record 60 rec.now)) Record (drop 2 cs) room.1 in
       let f = accepted n (count_in rec.now) (exponents_in rec.now) own_cells own_coefficients own_coefficients own_words taken.1 in
-      let written = (purlthicket_dim κs rec out r out' outcome).2 (ltb-false (length out.now) answer_size room.0) in
-      (standards_exactly n L f, written ∙ ap (λ (k : ℕ). answer_of k (dimension n L) (top_degree n L) ++ drop answer_size out.now) done)
+      let written = (purlthicket_dim κs rec out r out' outcome).2 (ltb-false (length out.now) 26 room.0) in
+      (standards_exactly n L f, written ∙ ap (λ (k : ℕ). answer_of k (dimension n L) (top_degree n L) ++ drop 26 out.now) done)

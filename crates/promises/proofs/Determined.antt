@@ -20,24 +20,23 @@ pub use Rattle.monomials.proofs.Determined.{
   cmp_lex_determined as monomials_monomial_cmp_lex,
   cmp_degrevlex_determined as monomials_monomial_cmp_degrevlex,
 }
--- words
-pub use Rattle.words.proofs.DeterminedWords.{
-  magnitude_determined as words_signed_magnitude,
-  positive_part_determined as words_signed_positive_part,
-  negative_part_determined as words_signed_negative_part,
-  signed_add_determined as words_signed_wrapping_add,
-  signed_sub_determined as words_signed_wrapping_sub,
-  to_bits_determined as words_signed_to_bits,
-  from_word_determined as words_wide_Wide_from_word,
-  from_signed_determined as words_wide_Wide_from_signed,
-  wrapping_add_determined as words_wide_Wide_wrapping_add,
-  wrapping_sub_determined as words_wide_Wide_wrapping_sub,
-  is_large_determined as words_wide_Wide_is_large,
-  times_determined as words_wide_Wide_times,
-  add_into_determined as words_wide_add_into,
-}
--- numbers: coefficient lists, the Hilbert function
+-- numbers: words, two-word numbers, coefficient lists, the Hilbert function
 pub use Rattle.numbers.proofs.DeterminedHilbert.{
+  magnitude_determined as numbers_signed_magnitude,
+  signed_add_determined as numbers_signed_wrapping_add,
+  signed_sub_determined as numbers_signed_wrapping_sub,
+  to_bits_determined as numbers_signed_to_bits,
+  from_bits_determined as numbers_signed_from_bits,
+  from_word_determined as numbers_wide_Wide_from_word,
+  from_signed_determined as numbers_wide_Wide_from_signed,
+  wrapping_add_determined as numbers_wide_Wide_wrapping_add,
+  wrapping_neg_determined as numbers_wide_Wide_wrapping_neg,
+  wrapping_sub_determined as numbers_wide_Wide_wrapping_sub,
+  less_than_determined as numbers_wide_Wide_less_than,
+  is_large_determined as numbers_wide_Wide_is_large,
+  product_determined as numbers_wide_Wide_product,
+  times_determined as numbers_wide_Wide_times,
+  add_into_determined as numbers_wide_add_into,
   is_zero_determined as numbers_coefficients_is_zero,
   degree_determined as numbers_coefficients_degree,
   coeff_determined as numbers_coefficients_coeff,

@@ -27,7 +27,6 @@ use Rattle.laws.proofs.Minimal.{minimal_same, minimal_shortest, minimal_falling}
 use Rattle.laws.proofs.Monomial.{and_left, and_right}
 use Rattle.laws.proofs.Reading.{listed_small, record_again, record_list, record_is}
 use Rattle.laws.proofs.Record.{record_same, record_length}
-use Rattle.monomials.specs.Limits.{max_width, max_count}
 use Rattle.monomials.specs.Refusal.{number, refusal, after}
 use Rattle.monomials.specs.declared.refusal.Refusal.{Refusal}
 use Rattle.monomials.specs.declared.refusal.Refusal.TheVariants.{Width as TooWide, Count, Cells, Place, Record, Output}
@@ -58,21 +57,21 @@ pub bytes_put : (o : Option Refusal) (bytes rec out : List ℕ) → o ≡ none �
 bytes_put o bytes rec out h e = rw (h, e) (refl, take_at rec (drop (length rec) out) (length rec) refl)
 
 -- what the checks of the writer leave
-accepted : (n s : ℕ) (cells out : List ℕ) → refusal (write_checks n s cells out) ≡ none → (n ≤ max_width) × (s ≤ max_count) × (length cells ≡ s * n)
+accepted : (n s : ℕ) (cells out : List ℕ) → refusal (write_checks 255 60 n s cells out) ≡ none → (n ≤ 255) × (s ≤ 60) × (length cells ≡ s * n)
 accepted n s cells out e =
-    let cs = write_checks n s cells out in
-    let wide = passes (ltb max_width n) TooWide (drop 1 cs) e in
-    let many = passes (ltb max_count s) Count (drop 2 cs) wide.1 in
+    let cs = write_checks 255 60 n s cells out in
+    let wide = passes (ltb 255 n) TooWide (drop 1 cs) e in
+    let many = passes (ltb 60 s) Count (drop 2 cs) wide.1 in
     let rest = passes (not (eqb (length cells) (s * n))) Cells (drop 3 cs) many.1 in
-    (ltb-false max_width n wide.0, ltb-false max_count s many.0, eqb-true (length cells) (s * n) (not-false (eqb (length cells) (s * n)) rest.0))
+    (ltb-false 255 n wide.0, ltb-false 60 s many.0, eqb-true (length cells) (s * n) (not-false (eqb (length cells) (s * n)) rest.0))
 
 module _ (κs : Lfts 2) (n s : ℕ) (cells out : Slice ℕ) (r : SizeAnswer) (out' : Slice ℕ)
     (outcome : write_record.Post κs (n ⨾ s ⨾ cells ⨾ out ⨾ tt) r (n ⨾ s ⨾ cells ⨾ out' ⨾ tt))
     (k : ℕ) (answer : r.outcome ≡ SizeOutcome.Value k) where
-  written : (take k out'.now ≡ ideal_record n (listed n s cells.now)) × (length (ideal_record n (listed n s cells.now)) ≡ k) × Width n (listed n s cells.now) × (s ≤ max_count)
+  written : (take k out'.now ≡ ideal_record n (listed n s cells.now)) × (length (ideal_record n (listed n s cells.now)) ≡ k) × Width n (listed n s cells.now) × (s ≤ 60)
   written =
       let L : List (List ℕ) = listed n s cells.now in
-      let (o, l, t) = bytes_there (refusal (write_checks n s cells.now out.now)) (ideal_record n L) out.now k (ap (λ (a : SizeAnswer). a.outcome) (sym outcome.0) ∙ answer) in
+      let (o, l, t) = bytes_there (refusal (write_checks 255 60 n s cells.now out.now)) (ideal_record n L) out.now k (ap (λ (a : SizeAnswer). a.outcome) (sym outcome.0) ∙ answer) in
       let (w, c, e) = accepted n s cells.now out.now o in
       (ap (take k) outcome.1 ∙ t, l, listed_width n s cells.now (omega arith), c)
 
@@ -114,55 +113,55 @@ not_twelve false t q h = (λ g. absurd (g refl), λ g. absurd (false≢true g))
 module _ (κs : Lfts 2) (n s : ℕ) (cells out : Slice ℕ) (r : SizeAnswer) (out' : Slice ℕ)
     (outcome : write_record.Post κs (n ⨾ s ⨾ cells ⨾ out ⨾ tt) r (n ⨾ s ⨾ cells ⨾ out' ⨾ tt))
     (k : ℕ) (answer : r.outcome ≡ SizeOutcome.Value k) (fit : Below 65536 cells.now) where
-  is_record_lem : is_record max_count (take k out'.now) ≡ true
+  is_record_lem : is_record 60 (take k out'.now) ≡ true
   is_record_lem =
       let L : List (List ℕ) = listed n s cells.now in
       let (bytes, size, w, c) = written κs n s cells out r out' outcome k answer in
-      let few : length (minimal L) ≤ max_count = omega (arith, minimal_shortest n L L w w (same_refl n L), listed_count n s cells.now) in
-      rw bytes (record_is max_count n L w (listed_small n s cells.now fit) few)
+      let few : length (minimal L) ≤ 60 = omega (arith, minimal_shortest n L L w w (same_refl n L), listed_count n s cells.now) in
+      rw bytes (record_is 60 n L w (listed_small n s cells.now fit) few)
 
   pub written_taken : (λs : Lfts 1) (rec : Slice ℕ) (i : ℕ) (c : CheckAnswer) → check_place.Post λs (rec ⨾ i ⨾ tt) c (rec ⨾ i ⨾ tt)
       → rec.now ≡ take k out'.now → number_in (of_check c 0) ≢ 12
   written_taken λs rec i c p e =
-      let cs = place_checks rec.now i in
-      let taken : is_record max_count rec.now ≡ true = ap (is_record max_count) e ∙ is_record_lem in
+      let cs = place_checks 60 rec.now i in
+      let taken : is_record 60 rec.now ≡ true = ap (is_record 60) e ∙ is_record_lem in
       rw (ap (λ (a : CheckAnswer). number_in (of_check a 0)) p ∙ check_kind.law (refusal cs))
-      ((not_twelve (is_record max_count rec.now) (leb (count_in rec.now) i) Place (λ z. omega arith)).1 taken)
+      ((not_twelve (is_record 60 rec.now) (leb (count_in rec.now) i) Place (λ z. omega arith)).1 taken)
 
 -- bytes are a record exactly when writing out what they list gives those bytes
 module _ (rec out : List ℕ) where
-  again : Below 256 rec → length rec ≤ length out → is_record max_count rec ≡ true
-      → (refusal (write_checks (width_in rec) (count_in rec) (exponents_in rec) out) ≡ none) × (ideal_record (width_in rec) (list_in rec) ≡ rec)
+  again : Below 256 rec → length rec ≤ length out → is_record 60 rec ≡ true
+      → (refusal (write_checks 255 60 (width_in rec) (count_in rec) (exponents_in rec) out) ≡ none) × (ideal_record (width_in rec) (list_in rec) ≡ rec)
   again fit l r =
       let n = width_in rec in
       let m = count_in rec in
       let whole = eqb (length (exponents_in rec)) (m * n) in
       let same = equal rec (ideal_record n (list_in rec)) in
-      let few : m ≤ max_count = leb-true m max_count (and_left (leb m max_count) (whole && same) r) in
-      let e : ideal_record n (list_in rec) ≡ rec = record_again max_count rec r in
+      let few : m ≤ 60 = leb-true m 60 (and_left (leb m 60) (whole && same) r) in
+      let e : ideal_record n (list_in rec) ≡ rec = record_again 60 rec r in
       let size : length (ideal_record n (list_in rec)) ≤ length out = subst (λ (z : ℕ). z ≤ length out) (sym (ap length e)) l in
-      (writes n m (exponents_in rec) out (omega (arith, fit 5)) few (eqb-true (length (exponents_in rec)) (m * n) (and_left whole same (and_right (leb m max_count) (whole && same) r))) size, e)
+      (writes n m (exponents_in rec) out (omega (arith, fit 5)) few (eqb-true (length (exponents_in rec)) (m * n) (and_left whole same (and_right (leb m 60) (whole && same) r))) size, e)
 
-  back : count_in rec ≤ max_count → length (exponents_in rec) ≡ count_in rec * width_in rec → ideal_record (width_in rec) (list_in rec) ≡ rec → is_record max_count rec ≡ true
+  back : count_in rec ≤ 60 → length (exponents_in rec) ≡ count_in rec * width_in rec → ideal_record (width_in rec) (list_in rec) ≡ rec → is_record 60 rec ≡ true
   back c w e =
       let n = width_in rec in
       let m = count_in rec in
-      ap₂ ◌&&◌ (le-leb m max_count c) (ap₂ ◌&&◌ (eq-eqb (length (exponents_in rec)) (m * n) w) (ap (equal rec) e ∙ equal_refl rec))
+      ap₂ ◌&&◌ (le-leb m 60 c) (ap₂ ◌&&◌ (eq-eqb (length (exponents_in rec)) (m * n) w) (ap (equal rec) e ∙ equal_refl rec))
 
   again_iff : (w : SizeAnswer) (out' : List ℕ) → length rec ≤ length out → Below 256 rec
-      → w ≡ write_answer (width_in rec) (count_in rec) (exponents_in rec) out → out' ≡ write_bytes (width_in rec) (count_in rec) (exponents_in rec) out
-      → (is_record max_count rec ≡ true) ↔ ((w.outcome ≡ SizeOutcome.Value (length rec)) × (take (length rec) out' ≡ rec))
+      → w ≡ write_answer 255 60 (width_in rec) (count_in rec) (exponents_in rec) out → out' ≡ write_bytes 255 60 (width_in rec) (count_in rec) (exponents_in rec) out
+      → (is_record 60 rec ≡ true) ↔ ((w.outcome ≡ SizeOutcome.Value (length rec)) × (take (length rec) out' ≡ rec))
   again_iff w out' l fit p q = (forth, λ h. fro h.0 h.1)
     where
-      forth : is_record max_count rec ≡ true → (w.outcome ≡ SizeOutcome.Value (length rec)) × (take (length rec) out' ≡ rec)
+      forth : is_record 60 rec ≡ true → (w.outcome ≡ SizeOutcome.Value (length rec)) × (take (length rec) out' ≡ rec)
       forth h =
           let (o, e) = again fit l h in
-          let (a, b) = bytes_put (refusal (write_checks (width_in rec) (count_in rec) (exponents_in rec) out)) (ideal_record (width_in rec) (list_in rec)) rec out o e in
+          let (a, b) = bytes_put (refusal (write_checks 255 60 (width_in rec) (count_in rec) (exponents_in rec) out)) (ideal_record (width_in rec) (list_in rec)) rec out o e in
           (ap (λ (y : SizeAnswer). y.outcome) p ∙ a, ap (take (length rec)) q ∙ b)
 
-      fro : w.outcome ≡ SizeOutcome.Value (length rec) → take (length rec) out' ≡ rec → is_record max_count rec ≡ true
+      fro : w.outcome ≡ SizeOutcome.Value (length rec) → take (length rec) out' ≡ rec → is_record 60 rec ≡ true
       fro h g =
-          let (o, e, t) = bytes_there (refusal (write_checks (width_in rec) (count_in rec) (exponents_in rec) out)) (ideal_record (width_in rec) (list_in rec)) out (length rec) (ap (λ (y : SizeAnswer). y.outcome) (sym p) ∙ h) in
+          let (o, e, t) = bytes_there (refusal (write_checks 255 60 (width_in rec) (count_in rec) (exponents_in rec) out)) (ideal_record (width_in rec) (list_in rec)) out (length rec) (ap (λ (y : SizeAnswer). y.outcome) (sym p) ∙ h) in
           let (x, y, z) = accepted (width_in rec) (count_in rec) (exponents_in rec) out o in
           back y z (sym t ∙ ap (take (length rec)) (sym q) ∙ g)
 
@@ -175,27 +174,27 @@ module _ (κs : Lfts 2) (rec exponents out : Slice ℕ) (w : SizeAnswer) (out' :
   abbrev Again : Type 0
   Again = (w.outcome ≡ SizeOutcome.Value (length rec.now)) × (take (length rec.now) out'.now ≡ rec.now)
 
-  record_again_iff : (is_record max_count rec.now ≡ true) ↔ Again
+  record_again_iff : (is_record 60 rec.now ≡ true) ↔ Again
   record_again_iff =
       let n = width_in rec.now in
       let m = count_in rec.now in
       again_iff rec.now out.now w out'.now room bytes
-      (outcome.0 ∙ ap (λ (cells : List ℕ). write_answer n m cells out.now) listed-there)
-      (outcome.1 ∙ ap (λ (cells : List ℕ). write_bytes n m cells out.now) listed-there)
+      (outcome.0 ∙ ap (λ (cells : List ℕ). write_answer 255 60 n m cells out.now) listed-there)
+      (outcome.1 ∙ ap (λ (cells : List ℕ). write_bytes 255 60 n m cells out.now) listed-there)
 
   pub place_takes : (λs : Lfts 1) (k : ℕ) (c : CheckAnswer) → check_place.Post λs (rec ⨾ k ⨾ tt) c (rec ⨾ k ⨾ tt)
       → (number_in (of_check c 0) ≢ 12)
       ↔ ((w.outcome ≡ SizeOutcome.Value (length rec.now)) × (take (length rec.now) out'.now ≡ rec.now))
   place_takes λs k c p =
-      let f = not_twelve (is_record max_count rec.now) (leb (count_in rec.now) k) Place (λ e. omega arith) in
-      let e : number_in (of_check c 0) ≡ status (refusal (place_checks rec.now k)) = ap (λ (a : CheckAnswer). number_in (of_check a 0)) p ∙ check_kind.law (refusal (place_checks rec.now k)) in
+      let f = not_twelve (is_record 60 rec.now) (leb (count_in rec.now) k) Place (λ e. omega arith) in
+      let e : number_in (of_check c 0) ≡ status (refusal (place_checks 60 rec.now k)) = ap (λ (a : CheckAnswer). number_in (of_check a 0)) p ∙ check_kind.law (refusal (place_checks 60 rec.now k)) in
       rw e (λ h. record_again_iff.0 (f.0 h), λ h. f.1 (record_again_iff.1 h))
 
   pub copy_takes : (λs : Lfts 2) (cells : Slice ℕ) (c : CopyAnswer) (cells' : Slice ℕ) → copy_record.Post λs (rec ⨾ cells ⨾ tt) c (rec ⨾ cells' ⨾ tt)
       → (number_in (of_copy c) ≢ 12)
       ↔ ((w.outcome ≡ SizeOutcome.Value (length rec.now)) × (take (length rec.now) out'.now ≡ rec.now))
   copy_takes λs cells c cells' p =
-      let cs = copy_checks rec.now cells.now in
-      let f = not_twelve (is_record max_count rec.now) (ltb (length cells.now) (count_in rec.now * width_in rec.now)) Output (λ e. omega arith) in
+      let cs = copy_checks 60 rec.now cells.now in
+      let f = not_twelve (is_record 60 rec.now) (ltb (length cells.now) (count_in rec.now * width_in rec.now)) Output (λ e. omega arith) in
       let e : number_in (of_copy c) ≡ status (refusal cs) = ap (λ (a : CopyAnswer). number_in (of_copy a)) p.0 ∙ (copy_kind (width_in rec.now) (count_in rec.now)).law (refusal cs) in
       rw e (λ h. record_again_iff.0 (f.0 h), λ h. f.1 (record_again_iff.1 h))

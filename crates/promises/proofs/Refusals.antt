@@ -25,7 +25,6 @@ use Rattle.laws.specs.Record.{ideal_record, is_record, width_in, count_in, expon
 use Rattle.laws.specs.Room.{cells_asked, coefficients_asked, update_asked}
 use Rattle.laws.specs.Order.{lex, degrevlex}
 use Rattle.laws.proofs.Reading.{bytes_by}
-use Rattle.monomials.specs.Limits.{max_width, max_count, max_exponent, max_degree, max_coefficient}
 use Rattle.monomials.specs.Mask.{of_words}
 use Rattle.monomials.specs.Monomial.{at_most, pair_checks, write_checks, power_checks, product_checks, quotient_checks}
 use Rattle.monomials.specs.Refusal.{refusal, too_wide}
@@ -49,18 +48,18 @@ use Rattle.monomials.proofs.monomial.cmp_degrevlex.Reads as cmp_degrevlex
 use Rattle.monomials.proofs.divmask.mask.Reads as mask_reads
 use Rattle.numbers.specs.Dimension.{at_once, bound_checks, room_checks, dimension_checks}
 use Rattle.numbers.specs.Hilbert.{hilbert_checks}
-use Rattle.words.specs.Wide.{value}
+use Rattle.numbers.specs.Wide.{value}
 use Rattle.numbers.specs.Numerator.{wiped, padded, numerator_checks}
 use Rattle.numbers.specs.Update.{update_checks}
 use Rattle.numbers.specs.declared.dimension.DimensionAnswer.{DimensionAnswer}
 use Rattle.numbers.specs.declared.hf_at.SignedAnswer.{SignedAnswer}
 use Rattle.numbers.specs.declared.numerator.LengthAnswer.{LengthAnswer}
-use Rattle.words.specs.declared.wide.Wide.{Wide}
+use Rattle.numbers.specs.declared.wide.Wide.{Wide}
 use Rattle.numbers.proofs.numerator.hilbert_numerator.Reads as hilbert_numerator
 use Rattle.numbers.proofs.update.add_generators.Reads as add_generators
 use Rattle.numbers.proofs.hf_at.hf_at.Reads as hf_at
 use Rattle.numbers.proofs.dimension.quotient_dimension.Reads as quotient_dimension
-use Rattle.records.specs.Answer.{answer_checks, answer_of, answer_size}
+use Rattle.records.specs.Answer.{answer_checks, answer_of}
 use Rattle.records.specs.Host.{own_cells, own_coefficients, own_words, record_checks, host_checks, status}
 use Rattle.records.specs.Ideal.{write_checks as write_record_checks, place_checks, copy_checks}
 use Rattle.records.specs.declared.ideal.SizeAnswer.{SizeAnswer}
@@ -86,90 +85,90 @@ use Rattle.promises.proofs.Answers.{told_first, told_after, number_kind, write_k
 -- "Monomials: 1, 3, 4, 5, 6, as they apply; the width is the number given, or else the first monomial's length. Masks: 1 only."
 
 pub total_degree : (κs : Lfts 1) (a : Slice ℕ) (r : NumberAnswer) → total_degree.Post κs (a ⨾ tt) r (a ⨾ tt)
-    → First ((max_width < length a.now, 1) ∷ []) (number_in (of_number r))
-total_degree κs a r p = told_first (number_kind (degree a.now)) (too_wide (length a.now) ∷ []) p (above max_width (length a.now), (refl, tt))
+    → First ((255 < length a.now, 1) ∷ []) (number_in (of_number r))
+total_degree κs a r p = told_first (number_kind (degree a.now)) (too_wide 255 (length a.now) ∷ []) p (above 255 (length a.now), (refl, tt))
 
 pub exponent_of : (κs : Lfts 1) (a : Slice ℕ) (v : ℕ) (r : NumberAnswer) → exponent_of.Post κs (a ⨾ v ⨾ tt) r (a ⨾ v ⨾ tt)
-    → First ((max_width < length a.now, 1) ∷ (length a.now ≤ v, 4) ∷ []) (number_in (of_number r))
+    → First ((255 < length a.now, 1) ∷ (length a.now ≤ v, 4) ∷ []) (number_in (of_number r))
 exponent_of κs a v r p =
-    told_first (number_kind (exponent a.now v)) (too_wide (length a.now) ∷ (leb (length a.now) v, Place) ∷ []) p
-    (above max_width (length a.now), (refl, (reaches (length a.now) v, (refl, tt))))
+    told_first (number_kind (exponent a.now v)) (too_wide 255 (length a.now) ∷ (leb (length a.now) v, Place) ∷ []) p
+    (above 255 (length a.now), (refl, (reaches (length a.now) v, (refl, tt))))
 
 pub power_of : (κs : Lfts 1) (n v x : ℕ) (out : Slice ℕ) (r : WriteAnswer) (out' : Slice ℕ) → power_of.Post κs (n ⨾ v ⨾ x ⨾ out ⨾ tt) r (n ⨾ v ⨾ x ⨾ out' ⨾ tt)
-    → First ((max_width < n, 1) ∷ (length out.now ≢ n, 3) ∷ (n ≤ v, 4) ∷ []) (number_in (of_write r))
+    → First ((255 < n, 1) ∷ (length out.now ≢ n, 3) ∷ (n ≤ v, 4) ∷ []) (number_in (of_write r))
     × After (number_in (of_write r)) out'.now out.now (power n v x)
 power_of κs n v x out r out' p =
-    let cs = power_checks n v out.now in (
-      told_first write_kind cs p.0 (above max_width n, (refl, (differs (length out.now) n, (refl, (reaches n v, (refl, tt)))))),
+    let cs = power_checks 255 n v out.now in (
+      told_first write_kind cs p.0 (above 255 n, (refl, (differs (length out.now) n, (refl, (reaches n v, (refl, tt)))))),
       told_after write_kind (refusal cs) p.0 p.1,
     )
 
 pub product_of : (κs : Lfts 3) (a b out : Slice ℕ) (r : WriteAnswer) (out' : Slice ℕ) → product_of.Post κs (a ⨾ b ⨾ out ⨾ tt) r (a ⨾ b ⨾ out' ⨾ tt)
     → First
-    ((max_width < length a.now, 1) ∷ (length b.now ≢ length a.now, 3) ∷ (length out.now ≢ length a.now, 3)
-    ∷ ((v : ℕ) × (max_exponent < exponent a.now v + exponent b.now v), 5) ∷ [])
+    ((255 < length a.now, 1) ∷ (length b.now ≢ length a.now, 3) ∷ (length out.now ≢ length a.now, 3)
+    ∷ ((v : ℕ) × (65535 < exponent a.now v + exponent b.now v), 5) ∷ [])
     (number_in (of_write r))
     × After (number_in (of_write r)) out'.now out.now (product a.now b.now)
 product_of κs a b out r out' p =
-    let cs = product_checks a.now b.now out.now in (
-      told_first write_kind cs p.0 (last_means a.now b.now out.now (not (at_most max_exponent (product a.now b.now))) Exponent (product_above max_exponent a.now b.now)),
+    let cs = product_checks 255 65535 a.now b.now out.now in (
+      told_first write_kind cs p.0 (last_means a.now b.now out.now (not (at_most 65535 (product a.now b.now))) Exponent (product_above 65535 a.now b.now)),
       told_after write_kind (refusal cs) p.0 p.1,
     )
 
 pub quotient_of : (κs : Lfts 3) (a b out : Slice ℕ) (r : WriteAnswer) (out' : Slice ℕ) → quotient_reads.Post κs (a ⨾ b ⨾ out ⨾ tt) r (a ⨾ b ⨾ out' ⨾ tt)
     → First
-    ((max_width < length a.now, 1) ∷ (length b.now ≢ length a.now, 3) ∷ (length out.now ≢ length a.now, 3)
+    ((255 < length a.now, 1) ∷ (length b.now ≢ length a.now, 3) ∷ (length out.now ≢ length a.now, 3)
     ∷ ((v : ℕ) × (exponent a.now v < exponent b.now v), 6) ∷ [])
     (number_in (of_write r))
     × After (number_in (of_write r)) out'.now out.now (quotient a.now b.now)
 quotient_of κs a b out r out' p =
-    let cs = quotient_checks a.now b.now out.now in (
+    let cs = quotient_checks 255 a.now b.now out.now in (
       told_first write_kind cs p.0 (last_means a.now b.now out.now (not (divides b.now a.now)) Division (not_divides b.now a.now)),
       told_after write_kind (refusal cs) p.0 p.1,
     )
 
 pub lcm_of_lem : (κs : Lfts 3) (a b out : Slice ℕ) (r : WriteAnswer) (out' : Slice ℕ) → lcm_of.Post κs (a ⨾ b ⨾ out ⨾ tt) r (a ⨾ b ⨾ out' ⨾ tt)
     → First
-    ((max_width < length a.now, 1) ∷ (length b.now ≢ length a.now, 3) ∷ (length out.now ≢ length a.now, 3) ∷ [])
+    ((255 < length a.now, 1) ∷ (length b.now ≢ length a.now, 3) ∷ (length out.now ≢ length a.now, 3) ∷ [])
     (number_in (of_write r))
     × After (number_in (of_write r)) out'.now out.now (lcm a.now b.now)
 lcm_of_lem κs a b out r out' p =
-    let cs = write_checks a.now b.now out.now in (
+    let cs = write_checks 255 a.now b.now out.now in (
       told_first write_kind cs p.0 (write_means a.now b.now out.now),
       told_after write_kind (refusal cs) p.0 p.1,
     )
 
 pub gcd_of : (κs : Lfts 3) (a b out : Slice ℕ) (r : WriteAnswer) (out' : Slice ℕ) → gcd_of.Post κs (a ⨾ b ⨾ out ⨾ tt) r (a ⨾ b ⨾ out' ⨾ tt)
     → First
-    ((max_width < length a.now, 1) ∷ (length b.now ≢ length a.now, 3) ∷ (length out.now ≢ length a.now, 3) ∷ [])
+    ((255 < length a.now, 1) ∷ (length b.now ≢ length a.now, 3) ∷ (length out.now ≢ length a.now, 3) ∷ [])
     (number_in (of_write r))
     × After (number_in (of_write r)) out'.now out.now (gcd a.now b.now)
 gcd_of κs a b out r out' p =
-    let cs = write_checks a.now b.now out.now in (
+    let cs = write_checks 255 a.now b.now out.now in (
       told_first write_kind cs p.0 (write_means a.now b.now out.now),
       told_after write_kind (refusal cs) p.0 p.1,
     )
 
 pub divides_of : (κs : Lfts 2) (a b : Slice ℕ) (r : TestAnswer) → divides_of.Post κs (a ⨾ b ⨾ tt) r (a ⨾ b ⨾ tt)
-    → First ((max_width < length a.now, 1) ∷ (length b.now ≢ length a.now, 3) ∷ []) (number_in (of_test r))
-divides_of κs a b r p = told_first (test_kind (divides a.now b.now)) (pair_checks a.now b.now) p (pair_means a.now b.now)
+    → First ((255 < length a.now, 1) ∷ (length b.now ≢ length a.now, 3) ∷ []) (number_in (of_test r))
+divides_of κs a b r p = told_first (test_kind (divides a.now b.now)) (pair_checks 255 a.now b.now) p (pair_means a.now b.now)
 
 pub is_coprime : (κs : Lfts 2) (a b : Slice ℕ) (r : TestAnswer) → is_coprime.Post κs (a ⨾ b ⨾ tt) r (a ⨾ b ⨾ tt)
-    → First ((max_width < length a.now, 1) ∷ (length b.now ≢ length a.now, 3) ∷ []) (number_in (of_test r))
-is_coprime κs a b r p = told_first (test_kind (coprime a.now b.now)) (pair_checks a.now b.now) p (pair_means a.now b.now)
+    → First ((255 < length a.now, 1) ∷ (length b.now ≢ length a.now, 3) ∷ []) (number_in (of_test r))
+is_coprime κs a b r p = told_first (test_kind (coprime a.now b.now)) (pair_checks 255 a.now b.now) p (pair_means a.now b.now)
 
 pub cmp_lex : (κs : Lfts 2) (a b : Slice ℕ) (r : OrderAnswer) → cmp_lex.Post κs (a ⨾ b ⨾ tt) r (a ⨾ b ⨾ tt)
-    → First ((max_width < length a.now, 1) ∷ (length b.now ≢ length a.now, 3) ∷ []) (number_in (of_order r))
-cmp_lex κs a b r p = told_first (order_kind (lex a.now b.now)) (pair_checks a.now b.now) p (pair_means a.now b.now)
+    → First ((255 < length a.now, 1) ∷ (length b.now ≢ length a.now, 3) ∷ []) (number_in (of_order r))
+cmp_lex κs a b r p = told_first (order_kind (lex a.now b.now)) (pair_checks 255 a.now b.now) p (pair_means a.now b.now)
 
 pub cmp_degrevlex : (κs : Lfts 2) (a b : Slice ℕ) (r : OrderAnswer) → cmp_degrevlex.Post κs (a ⨾ b ⨾ tt) r (a ⨾ b ⨾ tt)
-    → First ((max_width < length a.now, 1) ∷ (length b.now ≢ length a.now, 3) ∷ []) (number_in (of_order r))
-cmp_degrevlex κs a b r p = told_first (order_kind (degrevlex a.now b.now)) (pair_checks a.now b.now) p (pair_means a.now b.now)
+    → First ((255 < length a.now, 1) ∷ (length b.now ≢ length a.now, 3) ∷ []) (number_in (of_order r))
+cmp_degrevlex κs a b r p = told_first (order_kind (degrevlex a.now b.now)) (pair_checks 255 a.now b.now) p (pair_means a.now b.now)
 
 -- exponents past n are ignored, and missing ones are 0: the slice is not looked at
 pub mask_of : (κs : Lfts 1) (n most : ℕ) (exponents : Slice ℕ) (r : MaskAnswer) → mask_reads.Post κs (n ⨾ most ⨾ exponents ⨾ tt) r (n ⨾ most ⨾ exponents ⨾ tt)
-    → First ((max_width < n, 1) ∷ []) (number_in (of_mask r))
-mask_of κs n most exponents r p = told_first (mask_kind (of_words (mask n most exponents.now))) (too_wide n ∷ []) p (above max_width n, (refl, tt))
+    → First ((255 < n, 1) ∷ []) (number_in (of_mask r))
+mask_of κs n most exponents r p = told_first (mask_kind (of_words (mask n most exponents.now))) (too_wide 255 n ∷ []) p (above 255 n, (refl, tt))
 
 -- "Numerator: 1, 2, 3, 7, 8. Update: 1, 2, 3 existing, 3 new, 15, 7, 8." "After success it is the first coefficient room: the coefficients, then
 -- zeros up to the asked size. Every other room is zero in its asked part; cells beyond are untouched."
@@ -178,8 +177,8 @@ module _ (κs : Lfts 4) (n s : ℕ) (cells room : Slice ℕ) (first second : Sli
     (outcome : hilbert_numerator.Post κs (n ⨾ s ⨾ cells ⨾ room ⨾ first ⨾ second ⨾ tt) r (n ⨾ s ⨾ cells ⨾ room' ⨾ first' ⨾ second' ⨾ tt)) where
   pub hilbert_numerator : let L = listed n s cells.now in let k = number_in (of_length r) in
       First
-      ((max_width < n, 1)
-      ∷ (max_count < s, 2)
+      ((255 < n, 1)
+      ∷ (60 < s, 2)
       ∷ (length cells.now ≢ s * n, 3)
       ∷ (length room.now < cells_asked n L, 7)
       ∷ ((length first.now < coefficients_asked L) ⊎ (length second.now < coefficients_asked L), 8)
@@ -189,10 +188,10 @@ module _ (κs : Lfts 4) (n s : ℕ) (cells room : Slice ℕ) (first second : Sli
       × After k second'.now second.now (wiped (pos 0) (coefficients_asked L) second.now)
   hilbert_numerator =
       let L : List (List ℕ) = listed n s cells.now in
-      let cs = numerator_checks n s cells.now room.now first.now second.now in
+      let cs = numerator_checks 255 60 n s cells.now room.now first.now second.now in
       let j = length (numerator L) in (
         told_first (length_kind j) cs outcome.0
-            (above max_width n, (refl, (above max_count s, (refl, (differs (length cells.now) (s * n), (refl, rooms_means (cells_asked n L) (coefficients_asked L) room.now first.now second.now)))))),
+            (above 255 n, (refl, (above 60 s, (refl, (differs (length cells.now) (s * n), (refl, rooms_means (cells_asked n L) (coefficients_asked L) room.now first.now second.now)))))),
         told_after (length_kind j) (refusal cs) outcome.0 outcome.1.0,
         told_after (length_kind j) (refusal cs) outcome.0 outcome.1.1.0,
         told_after (length_kind j) (refusal cs) outcome.0 outcome.1.1.1,
@@ -203,11 +202,11 @@ module _ (κs : Lfts 6) (n : ℕ) (given : Slice ℤ) (s0 : ℕ) (existing : Sli
     (outcome : add_generators.Post κs (n ⨾ given ⨾ s0 ⨾ existing ⨾ s1 ⨾ added ⨾ room ⨾ first ⨾ second ⨾ tt) r (n ⨾ given ⨾ s0 ⨾ existing ⨾ s1 ⨾ added ⨾ room' ⨾ first' ⨾ second' ⨾ tt)) where
   pub add_generators : let L = listed n s0 existing.now in let K = listed n s1 added.now in let G = given.now in let k = number_in (of_length r) in
       First
-      ((max_width < n, 1)
-      ∷ (max_count < s0 + s1, 2)
+      ((255 < n, 1)
+      ∷ (60 < s0 + s1, 2)
       ∷ (length existing.now ≢ s0 * n, 3)
       ∷ (length added.now ≢ s1 * n, 3)
-      ∷ ((i : ℕ) × (max_coefficient < nat_abs (coefficient G i)), 15)
+      ∷ ((i : ℕ) × (2 ^ 61 < nat_abs (coefficient G i)), 15)
       ∷ (length room.now < cells_asked n (L ++ K), 7)
       ∷ ((length first.now < update_asked G (L ++ K)) ⊎ (length second.now < update_asked G (L ++ K)), 8)
       ∷ []) k
@@ -218,10 +217,10 @@ module _ (κs : Lfts 6) (n : ℕ) (given : Slice ℤ) (s0 : ℕ) (existing : Sli
       let L : List (List ℕ) = listed n s0 existing.now in
       let K : List (List ℕ) = listed n s1 added.now in
       let G : List ℤ = given.now in
-      let cs = update_checks n G s0 existing.now s1 added.now room.now first.now second.now in
+      let cs = update_checks 255 60 (2 ^ 61) n G s0 existing.now s1 added.now room.now first.now second.now in
       let j = length (update G L K) in (
         told_first (length_kind j) cs outcome.0
-            (above max_width n, (refl, (above max_count (s0 + s1), (refl, (differs (length existing.now) (s0 * n), (refl, (differs (length added.now) (s1 * n), (refl, (coefficient_beyond G, (refl, rooms_means (cells_asked n (L ++ K)) (update_asked G (L ++ K)) room.now first.now second.now)))))))))),
+            (above 255 n, (refl, (above 60 (s0 + s1), (refl, (differs (length existing.now) (s0 * n), (refl, (differs (length added.now) (s1 * n), (refl, (coefficient_beyond (2 ^ 61) G, (refl, rooms_means (cells_asked n (L ++ K)) (update_asked G (L ++ K)) room.now first.now second.now)))))))))),
         told_after (length_kind j) (refusal cs) outcome.0 outcome.1.0,
         told_after (length_kind j) (refusal cs) outcome.0 outcome.1.1.0,
         told_after (length_kind j) (refusal cs) outcome.0 outcome.1.1.1,
@@ -232,16 +231,16 @@ module _ (κs : Lfts 2) (n : ℕ) (given : Slice ℤ) (d : ℕ) (sums : Slice �
     (outcome : hf_at.Post κs (n ⨾ given ⨾ d ⨾ sums ⨾ tt) r (n ⨾ given ⨾ d ⨾ sums' ⨾ tt)) where
   pub hf_at : let k = number_in (of_signed r) in
       First
-      ((max_width < n, 1) ∷ (max_degree < d, 10) ∷ (length sums.now < 4 * (d + 1), 9) ∷ (2 ^ 127 ≤ hilbert_size given.now n d, 11) ∷ []) k
+      ((255 < n, 1) ∷ (65536 < d, 10) ∷ (length sums.now < 4 * (d + 1), 9) ∷ (2 ^ 127 ≤ hilbert_size given.now n d, 11) ∷ []) k
       × ((k ≡ 0) ⊎ (k ≡ 11) → sums'.now ≡ wiped 0 (4 * (d + 1)) sums.now)
       × (k ≢ 0 → k ≢ 11 → sums'.now ≡ sums.now)
   hf_at =
-      let cs = hilbert_checks n given.now d sums.now in
+      let cs = hilbert_checks 255 65536 n given.now d sums.now in
       let k = number_in (of_signed r) in
       let e : k ≡ status (refusal cs) = ap (λ (a : SignedAnswer). number_in (of_signed a)) outcome.0 ∙ (signed_kind (hilbert given.now n d)).law (refusal cs) in
-      let left = sums_left (ltb max_width n) (ltb max_degree d) (ltb (length sums.now) (4 * (d + 1))) (leb (2 ^ 127) (hilbert_size given.now n d)) sums'.now (wiped 0 (4 * (d + 1)) sums.now) sums.now outcome.1 in (
+      let left = sums_left (ltb 255 n) (ltb 65536 d) (ltb (length sums.now) (4 * (d + 1))) (leb (2 ^ 127) (hilbert_size given.now n d)) sums'.now (wiped 0 (4 * (d + 1)) sums.now) sums.now outcome.1 in (
         told_first (signed_kind (hilbert given.now n d)) cs outcome.0
-            (above max_width n, (refl, (above max_degree d, (refl, (above (length sums.now) (4 * (d + 1)), (refl, (reaches (2 ^ 127) (hilbert_size given.now n d), (refl, tt)))))))),
+            (above 255 n, (refl, (above 65536 d, (refl, (above (length sums.now) (4 * (d + 1)), (refl, (reaches (2 ^ 127) (hilbert_size given.now n d), (refl, tt)))))))),
         λ h. left.0 (rw e at h),
         λ h g. left.1 (rw e at h) (rw e at g),
       )
@@ -251,12 +250,12 @@ module _ (κs : Lfts 5) (n s : ℕ) (cells room : Slice ℕ) (first second : Sli
     (outcome : quotient_dimension.Post κs (n ⨾ s ⨾ cells ⨾ room ⨾ first ⨾ second ⨾ sums ⨾ tt) r (n ⨾ s ⨾ cells ⨾ room' ⨾ first' ⨾ second' ⨾ sums' ⨾ tt)) where
   pub quotient_dimension : let L = listed n s cells.now in let k = number_in (of_dimension r) in
       First
-      ((max_width < n, 1)
-      ∷ (max_count < s, 2)
+      ((255 < n, 1)
+      ∷ (60 < s, 2)
       ∷ (length cells.now ≢ s * n, 3)
       ∷ ((m : List ℕ) × In m L × (degree m ≡ 0), 0)
       ∷ (n ≡ 0, 0)
-      ∷ (((v : ℕ) × (v < n) × (least_power L v ≡ 0)) ⊎ (max_degree < degree_bound n L), 13)
+      ∷ (((v : ℕ) × (v < n) × (least_power L v ≡ 0)) ⊎ (65536 < degree_bound n L), 13)
       ∷ (2 ^ 127 ≤ powers_product n L, 11)
       ∷ (length room.now < cells_asked n L, 7)
       ∷ ((length first.now < coefficients_asked L) ⊎ (length second.now < coefficients_asked L), 8)
@@ -268,11 +267,11 @@ module _ (κs : Lfts 5) (n s : ℕ) (cells room : Slice ℕ) (first second : Sli
       × After k sums'.now sums.now (cond (at_once n L) sums.now (wiped 0 (2 * (degree_bound n L + 1)) sums.now))
   quotient_dimension =
       let L : List (List ℕ) = listed n s cells.now in
-      let cs = dimension_checks n s cells.now room.now first.now second.now sums.now in
-      let ds = bound_checks n L ++ room_checks n L room.now first.now second.now sums.now in
+      let cs = dimension_checks 255 60 65536 n s cells.now room.now first.now second.now sums.now in
+      let ds = bound_checks 65536 n L ++ room_checks n L room.now first.now second.now sums.now in
       let e : number_in (of_dimension r) ≡ status (refusal cs) = ap (λ (a : DimensionAnswer). number_in (of_dimension a)) outcome.0 ∙ (dimension_kind n L).law (refusal cs) in (
         rw e (list_first n s cells.now (cond (at_once n L) [] ds) (early_first (unit_in L) (eqb n 0) ds (unit_in_lem L) (equals n 0)
-            (no_dimension_lem n L, (refl, (reaches (2 ^ 127) (powers_product n L), (refl, (above (length room.now) (cells_asked n L), (refl, (either (ltb (length first.now) (coefficients_asked L)) (ltb (length second.now) (coefficients_asked L)) (above (length first.now) (coefficients_asked L)) (above (length second.now) (coefficients_asked L)), (refl, (above (length sums.now) (2 * (degree_bound n L + 1)), (refl, tt)))))))))))),
+            (no_dimension_lem 65536 n L, (refl, (reaches (2 ^ 127) (powers_product n L), (refl, (above (length room.now) (cells_asked n L), (refl, (either (ltb (length first.now) (coefficients_asked L)) (ltb (length second.now) (coefficients_asked L)) (above (length first.now) (coefficients_asked L)) (above (length second.now) (coefficients_asked L)), (refl, (above (length sums.now) (2 * (degree_bound n L + 1)), (refl, tt)))))))))))),
         told_after (dimension_kind n L) (refusal cs) outcome.0 outcome.1.0,
         told_after (dimension_kind n L) (refusal cs) outcome.0 outcome.1.1.0,
         told_after (dimension_kind n L) (refusal cs) outcome.0 outcome.1.1.1.0,
@@ -284,100 +283,100 @@ module _ (κs : Lfts 5) (n s : ℕ) (cells room : Slice ℕ) (first second : Sli
 module _ (κs : Lfts 2) (n s : ℕ) (cells out : Slice ℕ) (r : SizeAnswer) (out' : Slice ℕ)
     (outcome : write_record.Post κs (n ⨾ s ⨾ cells ⨾ out ⨾ tt) r (n ⨾ s ⨾ cells ⨾ out' ⨾ tt)) where
   pub write_record : let record-bytes = ideal_record n (listed n s cells.now) in let k = number_in (of_size r) in
-      First ((max_width < n, 1) ∷ (max_count < s, 2) ∷ (length cells.now ≢ s * n, 3) ∷ (length out.now < length record-bytes, 14) ∷ []) k
+      First ((255 < n, 1) ∷ (60 < s, 2) ∷ (length cells.now ≢ s * n, 3) ∷ (length out.now < length record-bytes, 14) ∷ []) k
       × After k out'.now out.now (record-bytes ++ drop (length record-bytes) out.now)
   write_record =
-      let cs = write_record_checks n s cells.now out.now in
+      let cs = write_record_checks 255 60 n s cells.now out.now in
       let j = length (ideal_record n (listed n s cells.now)) in (
         told_first (size_kind j) cs outcome.0
-            (above max_width n, (refl, (above max_count s, (refl, (differs (length cells.now) (s * n), (refl, (above (length out.now) j, (refl, tt)))))))),
+            (above 255 n, (refl, (above 60 s, (refl, (differs (length cells.now) (s * n), (refl, (above (length out.now) j, (refl, tt)))))))),
         told_after (size_kind j) (refusal cs) outcome.0 outcome.1,
       )
 
 -- what bytes are a record is demand 3's to say
 module _ (κs : Lfts 1) (rec : Slice ℕ) (k : ℕ) (r : CheckAnswer) (outcome : check_place.Post κs (rec ⨾ k ⨾ tt) r (rec ⨾ k ⨾ tt)) where
-  pub check_place : First ((is_record max_count rec.now ≡ false, 12) ∷ (count_in rec.now ≤ k, 4) ∷ []) (number_in (of_check r 0))
-  check_place = told_first check_kind (place_checks rec.now k) outcome (fails (is_record max_count rec.now), (refl, (reaches (count_in rec.now) k, (refl, tt))))
+  pub check_place : First ((is_record 60 rec.now ≡ false, 12) ∷ (count_in rec.now ≤ k, 4) ∷ []) (number_in (of_check r 0))
+  check_place = told_first check_kind (place_checks 60 rec.now k) outcome (fails (is_record 60 rec.now), (refl, (reaches (count_in rec.now) k, (refl, tt))))
 
   -- "Where it refuses, the part is empty, and a check call on the same record and place gives the number."
   pub place : (λs : Lfts 1) (part : Slice ℕ) → place_reads.Post λs (rec ⨾ k ⨾ tt) part (rec ⨾ k ⨾ tt) → After (number_in (of_check r 0)) part.now [] (part_of rec.now k)
-  place λs part p = told_after check_kind (refusal (place_checks rec.now k)) outcome p
+  place λs part p = told_after check_kind (refusal (place_checks 60 rec.now k)) outcome p
 
 module _ (κs : Lfts 2) (rec cells : Slice ℕ) (r : CopyAnswer) (cells' : Slice ℕ) (outcome : copy_record.Post κs (rec ⨾ cells ⨾ tt) r (rec ⨾ cells' ⨾ tt)) where
   pub copy_record : let k = number_in (of_copy r) in let size = count_in rec.now * width_in rec.now in
-      First ((is_record max_count rec.now ≡ false, 12) ∷ (length cells.now < size, 14) ∷ []) k
+      First ((is_record 60 rec.now ≡ false, 12) ∷ (length cells.now < size, 14) ∷ []) k
       × After k cells'.now cells.now (exponents_in rec.now ++ drop size cells.now)
   copy_record =
-      let cs = copy_checks rec.now cells.now in
+      let cs = copy_checks 60 rec.now cells.now in
       let size = count_in rec.now * width_in rec.now in (
-        told_first (copy_kind (width_in rec.now) (count_in rec.now)) cs outcome.0 (fails (is_record max_count rec.now), (refl, (above (length cells.now) size, (refl, tt)))),
+        told_first (copy_kind (width_in rec.now) (count_in rec.now)) cs outcome.0 (fails (is_record 60 rec.now), (refl, (above (length cells.now) size, (refl, tt)))),
         told_after (copy_kind (width_in rec.now) (count_in rec.now)) (refusal cs) outcome.0 outcome.1,
       )
 
 module _ (κs : Lfts 1) (code : ℕ) (x : Wide) (top : ℕ) (out : Slice ℕ) (r : CheckAnswer) (out' : Slice ℕ)
     (outcome : write_answer.Post κs (code ⨾ x ⨾ top ⨾ out ⨾ tt) r (code ⨾ x ⨾ top ⨾ out' ⨾ tt)) where
   pub write_answer_lem : let k = number_in (of_check r 0) in
-      First ((length out.now < answer_size, 14) ∷ []) k
-      × After k out'.now out.now (answer_of code (value x) top ++ drop answer_size out.now)
+      First ((length out.now < 26, 14) ∷ []) k
+      × After k out'.now out.now (answer_of code (value x) top ++ drop 26 out.now)
   write_answer_lem =
-      let cs = answer_checks out.now in
-      (told_first check_kind cs outcome.0 (above (length out.now) answer_size, (refl, tt)), told_after check_kind (refusal cs) outcome.0 outcome.1)
+      let cs = answer_checks 26 out.now in
+      (told_first check_kind cs outcome.0 (above (length out.now) 26, (refl, tt)), told_after check_kind (refusal cs) outcome.0 outcome.1)
 
 -- "Host call: 14, 12, then the dimension's", in the call's own rooms.
 abbrev pub host_rules : List ℕ → List ℕ → List Rule
 host_rules rec out =
     let n = width_in rec in
     let L = list_in rec in
-    (length out < answer_size, 14)
-    ∷ (is_record max_count rec ≡ false, 12)
-    ∷ (max_width < n, 1)
-    ∷ (max_count < count_in rec, 2)
+    (length out < 26, 14)
+    ∷ (is_record 60 rec ≡ false, 12)
+    ∷ (255 < n, 1)
+    ∷ (60 < count_in rec, 2)
     ∷ (length (exponents_in rec) ≢ count_in rec * n, 3)
     ∷ ((m : List ℕ) × In m L × (degree m ≡ 0), 0)
     ∷ (n ≡ 0, 0)
-    ∷ (((v : ℕ) × (v < n) × (least_power L v ≡ 0)) ⊎ (max_degree < degree_bound n L), 13)
+    ∷ (((v : ℕ) × (v < n) × (least_power L v ≡ 0)) ⊎ (65536 < degree_bound n L), 13)
     ∷ (2 ^ 127 ≤ powers_product n L, 11)
     ∷ (16384 < cells_asked n L, 7)
     ∷ (4096 < coefficients_asked L, 8)
     ∷ (4096 < 2 * (degree_bound n L + 1), 9)
     ∷ []
 
-host_first : (rec out : List ℕ) → First (host_rules rec out) (status (refusal (host_checks rec out)))
+host_first : (rec out : List ℕ) → First (host_rules rec out) (status (refusal (host_checks 255 60 65536 26 rec out)))
 host_first rec out =
     let n = width_in rec in
     let L = list_in rec in
-    let ds = bound_checks n L ++ room_checks n L own_cells own_coefficients own_coefficients own_words in
-    cons_first (ltb (length out) answer_size) Output (drop 1 (host_checks rec out)) (above (length out) answer_size)
-    (cons_first (not (is_record max_count rec)) Record (record_checks rec) (fails (is_record max_count rec))
+    let ds = bound_checks 65536 n L ++ room_checks n L own_cells own_coefficients own_coefficients own_words in
+    cons_first (ltb (length out) 26) Output (drop 1 (host_checks 255 60 65536 26 rec out)) (above (length out) 26)
+    (cons_first (not (is_record 60 rec)) Record (record_checks 255 60 65536 rec) (fails (is_record 60 rec))
     (list_first n (count_in rec) (exponents_in rec) (cond (at_once n L) [] ds) (early_first (unit_in L) (eqb n 0) ds (unit_in_lem L) (equals n 0)
-    (no_dimension_lem n L, (refl, (reaches (2 ^ 127) (powers_product n L), (refl, (above 16384 (cells_asked n L), (refl, (twice (ltb 4096 (coefficients_asked L)) (above 4096 (coefficients_asked L)), (refl, (above 4096 (2 * (degree_bound n L + 1)), (refl, tt)))))))))))))
+    (no_dimension_lem 65536 n L, (refl, (reaches (2 ^ 127) (powers_product n L), (refl, (above 16384 (cells_asked n L), (refl, (twice (ltb 4096 (coefficients_asked L)) (above 4096 (coefficients_asked L)), (refl, (above 4096 (2 * (degree_bound n L + 1)), (refl, tt)))))))))))))
 
 -- The second exception: "after 14 nothing is written, after any other refusal the answer record carries it", with both numbers 0.
 module _ (κs : Lfts 2) (rec out : Slice ℕ) (r : CheckAnswer) (out' : Slice ℕ) (outcome : answer_record.Post κs (rec ⨾ out ⨾ tt) r (rec ⨾ out' ⨾ tt)) where
   pub answer_record_lem : let n = width_in rec.now in let L = list_in rec.now in let k = number_in (of_check r 0) in
       First (host_rules rec.now out.now) k
-      × (length out.now < answer_size → out'.now ≡ out.now)
-      × (answer_size ≤ length out.now → out'.now ≡ answer_of k (dimension n L) (top_degree n L) ++ drop answer_size out.now)
+      × (length out.now < 26 → out'.now ≡ out.now)
+      × (26 ≤ length out.now → out'.now ≡ answer_of k (dimension n L) (top_degree n L) ++ drop 26 out.now)
   answer_record_lem =
-      let cs = host_checks rec.now out.now in
+      let cs = host_checks 255 60 65536 26 rec.now out.now in
       let e : number_in (of_check r 0) ≡ status (refusal cs) = ap (λ (a : CheckAnswer). number_in (of_check a 0)) outcome.0 ∙ check_kind.law (refusal cs) in
       rw e (host_first rec.now out.now, host_kept rec.now out.now out'.now (status (refusal cs)) outcome.1, host_written rec.now out.now out'.now (status (refusal cs)) outcome.1)
 
 module _ (κs : Lfts 2) (rec out : Slice ℕ) (r : ℕ) (out' : Slice ℕ) (outcome : purlthicket_dim.Post κs (rec ⨾ out ⨾ tt) r (rec ⨾ out' ⨾ tt)) where
   pub purlthicket_dim : let n = width_in rec.now in let L = list_in rec.now in
       First (host_rules rec.now out.now) r
-      × (length out.now < answer_size → out'.now ≡ out.now)
-      × (answer_size ≤ length out.now → out'.now ≡ answer_of r (dimension n L) (top_degree n L) ++ drop answer_size out.now)
+      × (length out.now < 26 → out'.now ≡ out.now)
+      × (26 ≤ length out.now → out'.now ≡ answer_of r (dimension n L) (top_degree n L) ++ drop 26 out.now)
   purlthicket_dim =
-      let k = status (refusal (host_checks rec.now out.now)) in
+      let k = status (refusal (host_checks 255 60 65536 26 rec.now out.now)) in
       rw outcome.0 (host_first rec.now out.now, host_kept rec.now out.now out'.now k outcome.1, host_written rec.now out.now out'.now k outcome.1)
 
   -- A record has a width below 256, at most 60 monomials and all their exponents: where the answer record is written, its status, byte 5, is
   -- the number, and is never 1, 2, 3 or 14.
-  pub host_status : Below 256 rec.now → answer_size ≤ length out.now → let k = get_or out'.now 5 0 in (k ≡ r) × (k ≢ 1) × (k ≢ 2) × (k ≢ 3) × (k ≢ 14)
+  pub host_status : Below 256 rec.now → 26 ≤ length out.now → let k = get_or out'.now 5 0 in (k ≡ r) × (k ≢ 1) × (k ≢ 2) × (k ≢ 3) × (k ≢ 14)
   host_status bytes room =
-      let (a, b, c, d) = status_never rec.now out.now room (bytes_by rec.now (λ i l. bytes i)) in
-      rw outcome.1 (status_written rec.now out.now room ∙ sym outcome.0, a, b, c, d)
+      let (a, b, c, d) = status_never 255 60 65536 26 rec.now out.now room (bytes_by rec.now (λ i l. bytes i)) (lit≤ tt) in
+      rw outcome.1 (status_written 255 60 65536 26 rec.now out.now room ∙ sym outcome.0, a, b, c, d)
 
 -- No product is formed that could wrap: s = 2^63 with n = 2 is 2, whatever the cells, and so are 2^63 existing and 2^63 new monomials
 

@@ -23,20 +23,19 @@ use Rattle.laws.specs.Record.{ideal_record, width_in, list_in}
 use Rattle.laws.specs.Room.{pairs, cells_asked, coefficients_asked, update_asked}
 use Rattle.laws.proofs.Enumeration.{equal_eq}
 use Rattle.laws.proofs.Monomial.{and_left, and_right}
-use Rattle.monomials.specs.Limits.{max_width, max_count, max_degree}
 use Rattle.monomials.specs.Refusal.{refusal, after}
 use Rattle.monomials.specs.declared.refusal.Refusal.{Refusal}
 use Rattle.monomials.specs.declared.refusal.Refusal.TheVariants.{Output}
 use Rattle.numbers.specs.Dimension.{at_once, no_dimension, dimension_is, dimension_checks, dimension_answer}
 use Rattle.numbers.specs.Update.{beyond, update_checks, update_answer, update_first}
 use Rattle.numbers.specs.Hilbert.{signed_answer, hilbert_checks, hilbert_answer}
-use Rattle.words.specs.Wide.{value, wide, wide_of, signed_value}
+use Rattle.numbers.specs.Wide.{value, wide, wide_of, signed_value}
 use Rattle.numbers.specs.Numerator.{length_answer, padded, numerator_checks, numerator_answer, numerator_first}
 use Rattle.numbers.specs.declared.dimension.DimensionAnswer.{DimensionAnswer}
 use Rattle.numbers.specs.declared.hf_at.SignedAnswer.{SignedAnswer}
 use Rattle.numbers.specs.declared.numerator.LengthOutcome.{LengthOutcome}
 use Rattle.numbers.specs.declared.numerator.LengthAnswer.{LengthAnswer}
-use Rattle.records.specs.Answer.{answer_of as answer_bytes_of, answer_size}
+use Rattle.records.specs.Answer.{answer_of as answer_bytes_of}
 use Rattle.records.specs.Host.{record_checks, host_checks, host_number, status}
 use Rattle.records.specs.Ideal.{not_record, write_checks, write_answer, write_bytes}
 use Rattle.records.specs.declared.ideal.SizeAnswer.{SizeAnswer}
@@ -66,35 +65,35 @@ same_all (x ∷ p) (y ∷ q) = same x y && same_all p q
 
 -- the number of the host's checks after 14
 abbrev record_status : List ℕ → ℕ
-record_status rec = status (refusal (not_record rec ∷ record_checks rec))
+record_status rec = status (refusal (not_record 60 rec ∷ record_checks 255 60 65536 rec))
 
 -- checks 1, 2 and 3 pass
 abbrev is_list : ℕ → ℕ → List ℕ → Bool
-is_list n s cells = leb n max_width && (leb s max_count && eqb (length cells) (s * n))
+is_list n s cells = leb n 255 && (leb s 60 && eqb (length cells) (s * n))
 
 -- checks 13 and 11 pass, where they are made
 abbrev has_dimension : ℕ → List (List ℕ) → Bool
-has_dimension n L = at_once n L || (not (no_dimension n L) && ltb (powers_product n L) (2 ^ 127))
+has_dimension n L = at_once n L || (not (no_dimension 65536 n L) && ltb (powers_product n L) (2 ^ 127))
 
 -- the checks of the host that come after 14 pass
 abbrev answer_test : List ℕ → List ℕ → Bool
-answer_test rec bytes = eqb (record_status rec) 0 && (eqb (length bytes) answer_size && equal (answer_bytes_of 0 (dimension (width_in rec) (list_in rec)) (top_degree (width_in rec) (list_in rec))) bytes)
+answer_test rec bytes = eqb (record_status rec) 0 && (eqb (length bytes) 26 && equal (answer_bytes_of 0 (dimension (width_in rec) (list_in rec)) (top_degree (width_in rec) (list_in rec))) bytes)
 
 abbrev test : Row → Bool
 test (coefficients n s cells N) = is_list n s cells && same_all (numerator (listed n s cells)) N
 test (counts n s cells values) = equal (first_of (length values) (HF (listed n s cells) n)) values
 test (dimension_of n s cells x) = is_list n s cells && (has_dimension n (listed n s cells) && eqb (value (wide (dimension n (listed n s cells)))) x)
-test (no_dimension_of n s cells) = is_list n s cells && (not (at_once n (listed n s cells)) && no_dimension n (listed n s cells))
+test (no_dimension_of n s cells) = is_list n s cells && (not (at_once n (listed n s cells)) && no_dimension 65536 n (listed n s cells))
 test (record_of n s cells bytes) = is_list n s cells && equal (ideal_record n (listed n s cells)) bytes
 test (answer_of n s cells bytes) = answer_test (ideal_record n (listed n s cells)) bytes
 test (sizes n s cells e c k) = eqb (pairs n (listed n s cells)) e && (eqb (cells_asked n (listed n s cells)) c && eqb (coefficients_asked (listed n s cells)) k)
 test (updated n G s0 existing s1 added N) =
-    leb n max_width
-    && (leb (s0 + s1) max_count
+    leb n 255
+    && (leb (s0 + s1) 60
     && (eqb (length existing) (s0 * n)
     && (eqb (length added) (s1 * n)
-    && (not (beyond G) && same_all (update G (listed n s0 existing) (listed n s1 added)) N))))
-test (value_at p n d z) = leb n max_width && (leb d max_degree && (ltb (hilbert_size p n d) (2 ^ 127) && same (signed_value (wide_of (hilbert p n d))) z))
+    && (not (beyond (2 ^ 61) G) && same_all (update G (listed n s0 existing) (listed n s1 added)) N))))
+test (value_at p n d z) = leb n 255 && (leb d 65536 && (ltb (hilbert_size p n d) (2 ^ 127) && same (signed_value (wide_of (hilbert p n d))) z))
 
 abbrev test_line : List Row → Bool
 test_line [] = true
@@ -122,11 +121,11 @@ same_all_eq (x ∷ p) (y ∷ q) h = ap₂ {C = List ℤ} ◌∷◌ (same_eq x y 
 both : (a b : Bool) → (a && b) ≡ true → (a ≡ true) × (b ≡ true)
 both a b h = (and_left a b h, and_right a b h)
 
-list_fits : (n s : ℕ) (cells : List ℕ) → is_list n s cells ≡ true → (n ≤ max_width) × (s ≤ max_count) × (length cells ≡ s * n)
+list_fits : (n s : ℕ) (cells : List ℕ) → is_list n s cells ≡ true → (n ≤ 255) × (s ≤ 60) × (length cells ≡ s * n)
 list_fits n s cells h =
-    let (a, g) = both (leb n max_width) (leb s max_count && eqb (length cells) (s * n)) h in
-    let (b, c) = both (leb s max_count) (eqb (length cells) (s * n)) g in
-    (leb-true n max_width a, leb-true s max_count b, eqb-true (length cells) (s * n) c)
+    let (a, g) = both (leb n 255) (leb s 60 && eqb (length cells) (s * n)) h in
+    let (b, c) = both (leb s 60) (eqb (length cells) (s * n)) g in
+    (leb-true n 255 a, leb-true s 60 b, eqb-true (length cells) (s * n) c)
 
 -- coefficients of a call that refuses nothing
 coefficients_put : (o : Option Refusal) (M N p : List ℤ) (asked : ℕ) → o ≡ none → M ≡ N
@@ -141,14 +140,14 @@ coefficients_hold n s cells N h κs list room first second r room' first' second
     let (f, g) = both (is_list n s cells) (same_all (numerator L) N) h in
     let (w, m, i) = list_fits n s cells f in
     let none-refused = numerator_done n s cells room.now first.now second.now w m i c k l in
-    let (a, b) = coefficients_put (refusal (numerator_checks n s cells room.now first.now second.now)) (numerator L) N first.now (coefficients_asked L) none-refused (same_all_eq (numerator L) N g) in (
-      ap (λ (y : LengthAnswer). y.outcome) (p.0 ∙ ap (λ (cs : List ℕ). numerator_answer n s cs room.now first.now second.now) e) ∙ a,
-      ap (take (length N)) (p.1.1.0 ∙ ap (λ (cs : List ℕ). numerator_first n s cs room.now first.now second.now) e) ∙ b,
+    let (a, b) = coefficients_put (refusal (numerator_checks 255 60 n s cells room.now first.now second.now)) (numerator L) N first.now (coefficients_asked L) none-refused (same_all_eq (numerator L) N g) in (
+      ap (λ (y : LengthAnswer). y.outcome) (p.0 ∙ ap (λ (cs : List ℕ). numerator_answer 255 60 n s cs room.now first.now second.now) e) ∙ a,
+      ap (take (length N)) (p.1.1.0 ∙ ap (λ (cs : List ℕ). numerator_first 255 60 n s cs room.now first.now second.now) e) ∙ b,
     )
 
-dimension_refused : (n s : ℕ) (cells room : List ℕ) (p q : List ℤ) (sums : List ℕ) → n ≤ max_width → s ≤ max_count → length cells ≡ s * n → at_once n (listed n s cells) ≡ false → no_dimension n (listed n s cells) ≡ true
-    → number_in (of_dimension (dimension_answer n s cells room p q sums)) ≡ 13
-dimension_refused n s cells room p q sums w m i a b = rw (le-ltb max_width n w, le-ltb max_count s m, eq-eqb (length cells) (s * n) i, a, b)
+dimension_refused : (n s : ℕ) (cells room : List ℕ) (p q : List ℤ) (sums : List ℕ) → n ≤ 255 → s ≤ 60 → length cells ≡ s * n → at_once n (listed n s cells) ≡ false → no_dimension 65536 n (listed n s cells) ≡ true
+    → number_in (of_dimension (dimension_answer 255 60 65536 n s cells room p q sums)) ≡ 13
+dimension_refused n s cells room p q sums w m i a b = rw (le-ltb 255 n w, le-ltb 60 s m, eq-eqb (length cells) (s * n) i, a, b)
 
 dimension_holds : (n s : ℕ) (cells : List ℕ) (x : ℕ) → test (dimension_of n s cells x) ≡ true → Says (dimension_of n s cells x)
 dimension_holds n s cells x h κs list room first second sums r room' first' second' sums' p e enough =
@@ -158,21 +157,21 @@ dimension_holds n s cells x h κs list room first second sums r room' first' sec
     let (w, m, i) = list_fits n s cells f in
     let o = dimension_done n s cells room.now first.now second.now sums.now w m i
     (λ once.
-    let (c, d) = both (not (no_dimension n L)) (ltb (powers_product n L) (2 ^ 127)) (rw once at a) in
+    let (c, d) = both (not (no_dimension 65536 n L)) (ltb (powers_product n L) (2 ^ 127)) (rw once at a) in
     let (j, k, l, t) = enough once in
-    (not-true (no_dimension n L) c, ltb-true (powers_product n L) (2 ^ 127) d, j, k, l, t)) in (
+    (not-true (no_dimension 65536 n L) c, ltb-true (powers_product n L) (2 ^ 127) d, j, k, l, t)) in (
       record { dimension = wide (dimension n L); top = top_degree n L },
-      ap (λ (y : DimensionAnswer). y.outcome) (p.0 ∙ ap (λ (cs : List ℕ). dimension_answer n s cs room.now first.now second.now sums.now) e) ∙ ap (λ (v : Option Refusal). (dimension_is v n L).outcome) o,
+      ap (λ (y : DimensionAnswer). y.outcome) (p.0 ∙ ap (λ (cs : List ℕ). dimension_answer 255 60 65536 n s cs room.now first.now second.now sums.now) e) ∙ ap (λ (v : Option Refusal). (dimension_is v n L).outcome) o,
       eqb-true (value (wide (dimension n L))) x b,
     )
 
 no_dimension_holds : (n s : ℕ) (cells : List ℕ) → test (no_dimension_of n s cells) ≡ true → Says (no_dimension_of n s cells)
 no_dimension_holds n s cells h κs list room first second sums r room' first' second' sums' p e =
     let L : List (List ℕ) = listed n s cells in
-    let (f, g) = both (is_list n s cells) (not (at_once n L) && no_dimension n L) h in
-    let (a, b) = both (not (at_once n L)) (no_dimension n L) g in
+    let (f, g) = both (is_list n s cells) (not (at_once n L) && no_dimension 65536 n L) h in
+    let (a, b) = both (not (at_once n L)) (no_dimension 65536 n L) g in
     let (w, m, i) = list_fits n s cells f in
-    ap (λ (y : DimensionAnswer). number_in (of_dimension y)) (p.0 ∙ ap (λ (cs : List ℕ). dimension_answer n s cs room.now first.now second.now sums.now) e)
+    ap (λ (y : DimensionAnswer). number_in (of_dimension y)) (p.0 ∙ ap (λ (cs : List ℕ). dimension_answer 255 60 65536 n s cs room.now first.now second.now sums.now) e)
     ∙ dimension_refused n s cells room.now first.now second.now sums.now w m i (not-true (at_once n L) a) b
 
 record_holds : (n s : ℕ) (cells bytes : List ℕ) → test (record_of n s cells bytes) ≡ true → Says (record_of n s cells bytes)
@@ -182,26 +181,26 @@ record_holds n s cells bytes h κs list out r out' p e l =
     let (w, m, i) = list_fits n s cells f in
     let written = equal_eq (ideal_record n L) bytes g in
     let o = writes n s cells out.now w m i (subst (λ (z : ℕ). z ≤ length out.now) (sym (ap length written)) l) in
-    let (a, b) = bytes_put (refusal (write_checks n s cells out.now)) (ideal_record n L) bytes out.now o written in (
-      ap (λ (y : SizeAnswer). y.outcome) (p.0 ∙ ap (λ (cs : List ℕ). write_answer n s cs out.now) e) ∙ a,
-      ap (take (length bytes)) (p.1 ∙ ap (λ (cs : List ℕ). write_bytes n s cs out.now) e) ∙ b,
+    let (a, b) = bytes_put (refusal (write_checks 255 60 n s cells out.now)) (ideal_record n L) bytes out.now o written in (
+      ap (λ (y : SizeAnswer). y.outcome) (p.0 ∙ ap (λ (cs : List ℕ). write_answer 255 60 n s cs out.now) e) ∙ a,
+      ap (take (length bytes)) (p.1 ∙ ap (λ (cs : List ℕ). write_bytes 255 60 n s cs out.now) e) ∙ b,
     )
 
 answer_holds : (rec bytes : List ℕ) → answer_test rec bytes ≡ true → (κs : Lfts 2) (given out : Slice ℕ) (r : ℕ) (out' : Slice ℕ)
-    → purlthicket_dim.Post κs (given ⨾ out ⨾ tt) r (given ⨾ out' ⨾ tt) → given.now ≡ rec → answer_size ≤ length out.now → (r ≡ 0) × (take answer_size out'.now ≡ bytes)
+    → purlthicket_dim.Post κs (given ⨾ out ⨾ tt) r (given ⨾ out' ⨾ tt) → given.now ≡ rec → 26 ≤ length out.now → (r ≡ 0) × (take 26 out'.now ≡ bytes)
 answer_holds rec bytes h κs given out r out' p e l =
     let said = answer_bytes_of 0 (dimension (width_in rec) (list_in rec)) (top_degree (width_in rec) (list_in rec)) in
-    let (a, g) = both (eqb (record_status rec) 0) (eqb (length bytes) answer_size && equal said bytes) h in
-    let (b, c) = both (eqb (length bytes) answer_size) (equal said bytes) g in
+    let (a, g) = both (eqb (record_status rec) 0) (eqb (length bytes) 26 && equal said bytes) h in
+    let (b, c) = both (eqb (length bytes) 26) (equal said bytes) g in
     let done : r ≡ 0 =
     p.0
-    ∙ ap (λ (bs : List ℕ). host_number bs out.now) e
-    ∙ ap (λ (t : Bool). status (refusal ((t, Output) ∷ drop 1 (host_checks rec out.now)))) (le-ltb (length out.now) answer_size l)
+    ∙ ap (λ (bs : List ℕ). host_number 255 60 65536 26 bs out.now) e
+    ∙ ap (λ (t : Bool). status (refusal ((t, Output) ∷ drop 1 (host_checks 255 60 65536 26 rec out.now)))) (le-ltb (length out.now) 26 l)
     ∙ eqb-true (record_status rec) 0 a in
     let whole = (purlthicket_dim κs given out r out' p).2 l in (
       done,
-      ap (take answer_size) (whole ∙ ap₂ (λ (k : ℕ) (bs : List ℕ). answer_bytes_of k (dimension (width_in bs) (list_in bs)) (top_degree (width_in bs) (list_in bs)) ++ drop answer_size out.now) done e ∙ ap (λ (bs : List ℕ). bs ++ drop answer_size out.now) (equal_eq said bytes c))
-          ∙ take_at bytes (drop answer_size out.now) answer_size (eqb-true (length bytes) answer_size b),
+      ap (take 26) (whole ∙ ap₂ (λ (k : ℕ) (bs : List ℕ). answer_bytes_of k (dimension (width_in bs) (list_in bs)) (top_degree (width_in bs) (list_in bs)) ++ drop 26 out.now) done e ∙ ap (λ (bs : List ℕ). bs ++ drop 26 out.now) (equal_eq said bytes c))
+          ∙ take_at bytes (drop 26 out.now) 26 (eqb-true (length bytes) 26 b),
     )
 
 sizes_hold : (n s : ℕ) (cells : List ℕ) (e c k : ℕ) → test (sizes n s cells e c k) ≡ true → Says (sizes n s cells e c k)
@@ -215,34 +214,34 @@ update_holds : (n : ℕ) (G : List ℤ) (s0 : ℕ) (existing : List ℕ) (s1 : �
 update_holds n G s0 existing s1 added N h κs given old new room first second r room' first' second' p eg eo en c k l =
     let U : List ℤ = update G (listed n s0 existing) (listed n s1 added) in
     let asked : ℕ = update_asked G (listed n s0 existing ++ listed n s1 added) in
-    let (w, h₁) = both (leb n max_width) _ h in
-    let (m, h₂) = both (leb (s0 + s1) max_count) _ h₁ in
+    let (w, h₁) = both (leb n 255) _ h in
+    let (m, h₂) = both (leb (s0 + s1) 60) _ h₁ in
     let (i, h₃) = both (eqb (length existing) (s0 * n)) _ h₂ in
     let (j, h₄) = both (eqb (length added) (s1 * n)) _ h₃ in
-    let (b, f) = both (not (beyond G)) (same_all U N) h₄ in
-    let o = update_done n G s0 existing s1 added room.now first.now second.now (leb-true n max_width w) (leb-true (s0 + s1) max_count m) (eqb-true (length existing) (s0 * n) i) (eqb-true (length added) (s1 * n) j) (not-true (beyond G) b) c k l in
-    let (x, y) = coefficients_put (refusal (update_checks n G s0 existing s1 added room.now first.now second.now)) U N first.now asked o (same_all_eq U N f) in (
+    let (b, f) = both (not (beyond (2 ^ 61) G)) (same_all U N) h₄ in
+    let o = update_done n G s0 existing s1 added room.now first.now second.now (leb-true n 255 w) (leb-true (s0 + s1) 60 m) (eqb-true (length existing) (s0 * n) i) (eqb-true (length added) (s1 * n) j) (not-true (beyond (2 ^ 61) G) b) c k l in
+    let (x, y) = coefficients_put (refusal (update_checks 255 60 (2 ^ 61) n G s0 existing s1 added room.now first.now second.now)) U N first.now asked o (same_all_eq U N f) in (
       ap (λ (a : LengthAnswer). a.outcome)
           (p.0
-          ∙ ap (λ (g : List ℤ). update_answer n g s0 old.now s1 new.now room.now first.now second.now) eg
-          ∙ ap₂ (λ (a b : List ℕ). update_answer n G s0 a s1 b room.now first.now second.now) eo en)
+          ∙ ap (λ (g : List ℤ). update_answer 255 60 (2 ^ 61) n g s0 old.now s1 new.now room.now first.now second.now) eg
+          ∙ ap₂ (λ (a b : List ℕ). update_answer 255 60 (2 ^ 61) n G s0 a s1 b room.now first.now second.now) eo en)
           ∙ x,
       ap (take (length N))
           (p.1.1.0
-          ∙ ap (λ (g : List ℤ). update_first n g s0 old.now s1 new.now room.now first.now second.now) eg
-          ∙ ap₂ (λ (a b : List ℕ). update_first n G s0 a s1 b room.now first.now second.now) eo en)
+          ∙ ap (λ (g : List ℤ). update_first 255 60 (2 ^ 61) n g s0 old.now s1 new.now room.now first.now second.now) eg
+          ∙ ap₂ (λ (a b : List ℕ). update_first 255 60 (2 ^ 61) n G s0 a s1 b room.now first.now second.now) eo en)
           ∙ y,
     )
 
 value_holds : (p : List ℤ) (n d : ℕ) (z : ℤ) → test (value_at p n d z) ≡ true → Says (value_at p n d z)
 value_holds p n d z h κs given sums r sums' o e l =
     let x : ℤ = hilbert p n d in
-    let (w, h₁) = both (leb n max_width) _ h in
-    let (m, h₂) = both (leb d max_degree) _ h₁ in
+    let (w, h₁) = both (leb n 255) _ h in
+    let (m, h₂) = both (leb d 65536) _ h₁ in
     let (b, f) = both (ltb (hilbert_size p n d) (2 ^ 127)) (same (signed_value (wide_of x)) z) h₂ in
-    let none-refused = value_done n p d sums.now (leb-true n max_width w) (leb-true d max_degree m) (ltb-true (hilbert_size p n d) (2 ^ 127) b) l in (
+    let none-refused = value_done n p d sums.now (leb-true n 255 w) (leb-true d 65536 m) (ltb-true (hilbert_size p n d) (2 ^ 127) b) l in (
       wide_of x,
-      ap (λ (a : SignedAnswer). a.outcome) (o.0 ∙ ap (λ (g : List ℤ). hilbert_answer n g d sums.now) e) ∙ ap (λ (v : Option Refusal). (signed_answer v x).outcome) none-refused,
+      ap (λ (a : SignedAnswer). a.outcome) (o.0 ∙ ap (λ (g : List ℤ). hilbert_answer 255 65536 n g d sums.now) e) ∙ ap (λ (v : Option Refusal). (signed_answer v x).outcome) none-refused,
       same_eq (signed_value (wide_of x)) z f,
     )
 

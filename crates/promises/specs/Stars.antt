@@ -12,9 +12,8 @@ use Rattle.laws.specs.Dimension.{degree_bound}
 use Rattle.laws.specs.Ideal.{listed}
 use Rattle.laws.specs.Record.{ideal_record}
 use Rattle.laws.specs.Room.{pairs, cells_asked, coefficients_asked, update_asked}
-use Rattle.records.specs.Answer.{answer_size}
 use Rattle.numbers.specs.Dimension.{at_once}
-use Rattle.words.specs.Wide.{value, signed_value}
+use Rattle.numbers.specs.Wide.{value, signed_value}
 use Rattle.numbers.specs.declared.dimension.Dimension.{Dimension}
 use Rattle.numbers.specs.declared.dimension.DimensionOutcome.{DimensionOutcome}
 use Rattle.numbers.specs.declared.dimension.DimensionAnswer.{DimensionAnswer}
@@ -22,7 +21,7 @@ use Rattle.numbers.specs.declared.hf_at.SignedOutcome.{SignedOutcome}
 use Rattle.numbers.specs.declared.hf_at.SignedAnswer.{SignedAnswer}
 use Rattle.numbers.specs.declared.numerator.LengthOutcome.{LengthOutcome}
 use Rattle.numbers.specs.declared.numerator.LengthAnswer.{LengthAnswer}
-use Rattle.words.specs.declared.wide.Wide.{Wide}
+use Rattle.numbers.specs.declared.wide.Wide.{Wide}
 use Rattle.numbers.proofs.dimension.quotient_dimension.Reads as quotient_dimension
 use Rattle.numbers.proofs.hf_at.hf_at.Reads as hf_at
 use Rattle.numbers.proofs.numerator.hilbert_numerator.Reads as hilbert_numerator
@@ -89,8 +88,8 @@ Says (answer_of n s cells bytes) =
     (κs : Lfts 2) (rec out : Slice ℕ) (r : ℕ) (out' : Slice ℕ)
     → purlthicket_dim.Post κs (rec ⨾ out ⨾ tt) r (rec ⨾ out' ⨾ tt)
     → rec.now ≡ ideal_record n (listed n s cells)
-    → answer_size ≤ length out.now
-    → (r ≡ 0) × (take answer_size out'.now ≡ bytes)
+    → 26 ≤ length out.now
+    → (r ≡ 0) × (take 26 out'.now ≡ bytes)
 Says (sizes n s cells e c k) = (pairs n (listed n s cells) ≡ e) × (cells_asked n (listed n s cells) ≡ c) × (coefficients_asked (listed n s cells) ≡ k)
 Says (updated n G s0 existing s1 added N) =
     (κs : Lfts 6) (given : Slice ℤ) (old new room : Slice ℕ) (first second : Slice ℤ) (r : LengthAnswer) (room' : Slice ℕ) (first' second' : Slice ℤ)

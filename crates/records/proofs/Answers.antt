@@ -25,7 +25,6 @@ use Rattle.laws.proofs.Ideal.{listed_width}
 use Rattle.laws.proofs.Minimal.{minimal_width}
 use Rattle.laws.proofs.Record.{record_length}
 use Rattle.laws.proofs.Writing.{written_sets}
-use Rattle.monomials.specs.Limits.{max_width, max_count}
 use Rattle.monomials.specs.Refusal.{Check, refusal, after}
 use Rattle.monomials.specs.declared.refusal.Refusal.{Refusal}
 use Rattle.monomials.specs.declared.refusal.Refusal.TheVariants.{Width as TooWide, Count, Cells, Place, Record, Output}
@@ -37,38 +36,38 @@ use Rattle.records.proofs.Choosing.{rows_at_length}
 
 -- the writer
 
-module _ (n s : ℕ) (cells out : List ℕ) where
-  pub write_refused : (x : Refusal) (a : SizeAnswer) → a ≡ size_answer (some x) 0 → refusal (write_checks n s cells out) ≡ some x
-      → (a ≡ write_answer n s cells out) × (out ≡ write_bytes n s cells out)
+module _ (W C n s : ℕ) (cells out : List ℕ) where
+  pub write_refused : (x : Refusal) (a : SizeAnswer) → a ≡ size_answer (some x) 0 → refusal (write_checks W C n s cells out) ≡ some x
+      → (a ≡ write_answer W C n s cells out) × (out ≡ write_bytes W C n s cells out)
   write_refused x a p e = (
     p ∙ ap (λ (r : Option Refusal). size_answer r (length (record_of n s cells))) (sym e),
     ap (λ (r : Option Refusal). after r (record_of n s cells ++ drop (length (record_of n s cells)) out) out) (sym e),
   )
 
-  pub write_done : (N : ℕ) (d : List ℕ) → refusal (write_checks n s cells out) ≡ none → N ≡ length (record_of n s cells) → d ≡ record_of n s cells ++ drop (length (record_of n s cells)) out
-      → (size_answer none N ≡ write_answer n s cells out) × (d ≡ write_bytes n s cells out)
+  pub write_done : (N : ℕ) (d : List ℕ) → refusal (write_checks W C n s cells out) ≡ none → N ≡ length (record_of n s cells) → d ≡ record_of n s cells ++ drop (length (record_of n s cells)) out
+      → (size_answer none N ≡ write_answer W C n s cells out) × (d ≡ write_bytes W C n s cells out)
   write_done N d e p q = (
     ap (size_answer none) p ∙ ap (λ (r : Option Refusal). size_answer r (length (record_of n s cells))) (sym e),
     q ∙ ap (λ (r : Option Refusal). after r (record_of n s cells ++ drop (length (record_of n s cells)) out) out) (sym e),
   )
 
-  pub write_wide : max_width < n → refusal (write_checks n s cells out) ≡ some TooWide
-  write_wide h = rw (lt-ltb max_width n h)
+  pub write_wide : W < n → refusal (write_checks W C n s cells out) ≡ some TooWide
+  write_wide h = rw (lt-ltb W n h)
 
-  module _ (h : n ≤ max_width) where
-    pub write_many : max_count < s → refusal (write_checks n s cells out) ≡ some Count
-    write_many g = rw (le-ltb max_width n h, lt-ltb max_count s g)
+  module _ (h : n ≤ W) where
+    pub write_many : C < s → refusal (write_checks W C n s cells out) ≡ some Count
+    write_many g = rw (le-ltb W n h, lt-ltb C s g)
 
-    module _ (g : s ≤ max_count) where
-      pub write_cells : (length cells ≡ s * n → ⊥) → refusal (write_checks n s cells out) ≡ some Cells
-      write_cells f = rw (le-ltb max_width n h, le-ltb max_count s g, ne_eqb (length cells) (s * n) f)
+    module _ (g : s ≤ C) where
+      pub write_cells : (length cells ≡ s * n → ⊥) → refusal (write_checks W C n s cells out) ≡ some Cells
+      write_cells f = rw (le-ltb W n h, le-ltb C s g, ne_eqb (length cells) (s * n) f)
 
       module _ (f : length cells ≡ s * n) where
-        pub write_short : length out < length (record_of n s cells) → refusal (write_checks n s cells out) ≡ some Output
-        write_short e = rw (le-ltb max_width n h, le-ltb max_count s g, eq-eqb (length cells) (s * n) f, lt-ltb (length out) (length (record_of n s cells)) e)
+        pub write_short : length out < length (record_of n s cells) → refusal (write_checks W C n s cells out) ≡ some Output
+        write_short e = rw (le-ltb W n h, le-ltb C s g, eq-eqb (length cells) (s * n) f, lt-ltb (length out) (length (record_of n s cells)) e)
 
-        pub write_passes : length (record_of n s cells) ≤ length out → refusal (write_checks n s cells out) ≡ none
-        write_passes e = rw (le-ltb max_width n h, le-ltb max_count s g, eq-eqb (length cells) (s * n) f, le-ltb (length out) (length (record_of n s cells)) e)
+        pub write_passes : length (record_of n s cells) ≤ length out → refusal (write_checks W C n s cells out) ≡ none
+        write_passes e = rw (le-ltb W n h, le-ltb C s g, eq-eqb (length cells) (s * n) f, le-ltb (length out) (length (record_of n s cells)) e)
 
 module _ (n s m : ℕ) (cells places : List ℕ) (h : length cells ≡ s * n) (g : m ≤ length places) (e : rows_at n cells (take m places) ≡ minimal (listed n s cells)) where
   width : Width n (listed n s cells)
@@ -89,29 +88,29 @@ module _ (n s m : ℕ) (cells places : List ℕ) (h : length cells ≡ s * n) (g
 
 -- the readers
 
-module _ (rec : List ℕ) where
+module _ (C : ℕ) (rec : List ℕ) where
   -- bytes that are no record are refused first
-  pub no_record : (cs : List Check) → is_record max_count rec ≡ false → refusal (not_record rec ∷ cs) ≡ some Record
+  pub no_record : (cs : List Check) → is_record C rec ≡ false → refusal (not_record C rec ∷ cs) ≡ some Record
   no_record cs e = ap (λ (t : Bool). cond (not t) (some Record) (refusal cs)) e
 
   -- else the other checks decide
-  pub a_record : (cs : List Check) → is_record max_count rec ≡ true → refusal (not_record rec ∷ cs) ≡ refusal cs
+  pub a_record : (cs : List Check) → is_record C rec ≡ true → refusal (not_record C rec ∷ cs) ≡ refusal cs
   a_record cs e = ap (λ (t : Bool). cond (not t) (some Record) (refusal cs)) e
 
   module _ (k : ℕ) where
-    pub place_none : is_record max_count rec ≡ false → refusal (place_checks rec k) ≡ some Record
+    pub place_none : is_record C rec ≡ false → refusal (place_checks C rec k) ≡ some Record
     place_none e = no_record ((leb (count_in rec) k, Place) ∷ []) e
 
-    pub place_past : is_record max_count rec ≡ true → count_in rec ≤ k → refusal (place_checks rec k) ≡ some Place
+    pub place_past : is_record C rec ≡ true → count_in rec ≤ k → refusal (place_checks C rec k) ≡ some Place
     place_past e h = a_record ((leb (count_in rec) k, Place) ∷ []) e ∙ ap (λ (t : Bool). cond t (some Place) none) (le-leb (count_in rec) k h)
 
-    pub place_there : is_record max_count rec ≡ true → k < count_in rec → refusal (place_checks rec k) ≡ none
+    pub place_there : is_record C rec ≡ true → k < count_in rec → refusal (place_checks C rec k) ≡ none
     place_there e h = a_record ((leb (count_in rec) k, Place) ∷ []) e ∙ ap (λ (t : Bool). cond t (some Place) none) (lt-leb (count_in rec) k h)
 
-    pub place_told_lem : (r : Option Refusal) → refusal (place_checks rec k) ≡ r → check_answer r ≡ place_answer rec k
+    pub place_told_lem : (r : Option Refusal) → refusal (place_checks C rec k) ≡ r → check_answer r ≡ place_answer C rec k
     place_told_lem r e = ap check_answer (sym e)
 
-    pub place_given : (r : Option Refusal) → refusal (place_checks rec k) ≡ r → after r (part_of rec k) [] ≡ place_part rec k
+    pub place_given : (r : Option Refusal) → refusal (place_checks C rec k) ≡ r → after r (part_of rec k) [] ≡ place_part C rec k
     place_given r e = ap (λ (x : Option Refusal). after x (part_of rec k) []) (sym e)
 
     -- the part from its start up to its end
@@ -121,38 +120,38 @@ module _ (rec : List ℕ) where
         rw z (ap (λ (w : ℕ). take (2 * w) (drop (7 + 2 * w * k) rec)) e)
 
   module _ (cells : List ℕ) where
-    pub copy_none : is_record max_count rec ≡ false → refusal (copy_checks rec cells) ≡ some Record
+    pub copy_none : is_record C rec ≡ false → refusal (copy_checks C rec cells) ≡ some Record
     copy_none e = no_record ((ltb (length cells) (count_in rec * width_in rec), Output) ∷ []) e
 
-    pub copy_short : is_record max_count rec ≡ true → length cells < count_in rec * width_in rec → refusal (copy_checks rec cells) ≡ some Output
+    pub copy_short : is_record C rec ≡ true → length cells < count_in rec * width_in rec → refusal (copy_checks C rec cells) ≡ some Output
     copy_short e h =
         a_record ((ltb (length cells) (count_in rec * width_in rec), Output) ∷ []) e
         ∙ ap (λ (t : Bool). cond t (some Output) none) (lt-ltb (length cells) (count_in rec * width_in rec) h)
 
-    pub copy_passes : is_record max_count rec ≡ true → count_in rec * width_in rec ≤ length cells → refusal (copy_checks rec cells) ≡ none
+    pub copy_passes : is_record C rec ≡ true → count_in rec * width_in rec ≤ length cells → refusal (copy_checks C rec cells) ≡ none
     copy_passes e h =
         a_record ((ltb (length cells) (count_in rec * width_in rec), Output) ∷ []) e
         ∙ ap (λ (t : Bool). cond t (some Output) none) (le-ltb (length cells) (count_in rec * width_in rec) h)
 
-module _ (rec cells : List ℕ) where
-  pub copy_refused : (x : Refusal) (a : CopyAnswer) → a ≡ shape_answer (some x) 0 0 → refusal (copy_checks rec cells) ≡ some x
-      → (a ≡ copy_answer rec cells) × (cells ≡ copy_cells rec cells)
+module _ (C : ℕ) (rec cells : List ℕ) where
+  pub copy_refused : (x : Refusal) (a : CopyAnswer) → a ≡ shape_answer (some x) 0 0 → refusal (copy_checks C rec cells) ≡ some x
+      → (a ≡ copy_answer C rec cells) × (cells ≡ copy_cells C rec cells)
   copy_refused x a p e = (
     p ∙ ap (λ (r : Option Refusal). shape_answer r (width_in rec) (count_in rec)) (sym e),
     ap (λ (r : Option Refusal). after r (exponents_in rec ++ drop (count_in rec * width_in rec) cells) cells) (sym e),
   )
 
-  pub copy_done : (n m : ℕ) (d : List ℕ) → refusal (copy_checks rec cells) ≡ none → n ≡ width_in rec → m ≡ count_in rec → d ≡ exponents_in rec ++ drop (count_in rec * width_in rec) cells
-      → (shape_answer none n m ≡ copy_answer rec cells) × (d ≡ copy_cells rec cells)
+  pub copy_done : (n m : ℕ) (d : List ℕ) → refusal (copy_checks C rec cells) ≡ none → n ≡ width_in rec → m ≡ count_in rec → d ≡ exponents_in rec ++ drop (count_in rec * width_in rec) cells
+      → (shape_answer none n m ≡ copy_answer C rec cells) × (d ≡ copy_cells C rec cells)
   copy_done n m d e p q f = (
     ap₂ (shape_answer none) p q ∙ ap (λ (r : Option Refusal). shape_answer r (width_in rec) (count_in rec)) (sym e),
     f ∙ ap (λ (r : Option Refusal). after r (exponents_in rec ++ drop (count_in rec * width_in rec) cells) cells) (sym e),
   )
 
-  pub read_refused : (d : List ℕ) (a : CopyAnswer) → a ≡ shape_answer (some Record) 0 0 → is_record max_count rec ≡ false
-      → (a ≡ copy_answer rec cells) × (is_record max_count rec ≡ true → d ≡ copy_cells rec cells)
-  read_refused d a p e = ((copy_refused Record a p (copy_none rec cells e)).0, λ t. absurd (false≢true (sym e ∙ t)))
+  pub read_refused : (d : List ℕ) (a : CopyAnswer) → a ≡ shape_answer (some Record) 0 0 → is_record C rec ≡ false
+      → (a ≡ copy_answer C rec cells) × (is_record C rec ≡ true → d ≡ copy_cells C rec cells)
+  read_refused d a p e = ((copy_refused Record a p (copy_none C rec cells e)).0, λ t. absurd (false≢true (sym e ∙ t)))
 
-  pub read_done : (n m : ℕ) (d : List ℕ) → is_record max_count rec ≡ true → count_in rec * width_in rec ≤ length cells → n ≡ width_in rec → m ≡ count_in rec → d ≡ exponents_in rec ++ drop (count_in rec * width_in rec) cells
-      → (shape_answer none n m ≡ copy_answer rec cells) × (is_record max_count rec ≡ true → d ≡ copy_cells rec cells)
-  read_done n m d e h p q f = let (a, b) = copy_done n m d (copy_passes rec cells e h) p q f in (a, λ _. b)
+  pub read_done : (n m : ℕ) (d : List ℕ) → is_record C rec ≡ true → count_in rec * width_in rec ≤ length cells → n ≡ width_in rec → m ≡ count_in rec → d ≡ exponents_in rec ++ drop (count_in rec * width_in rec) cells
+      → (shape_answer none n m ≡ copy_answer C rec cells) × (is_record C rec ≡ true → d ≡ copy_cells C rec cells)
+  read_done n m d e h p q f = let (a, b) = copy_done n m d (copy_passes C rec cells e h) p q f in (a, λ _. b)

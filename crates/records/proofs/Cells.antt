@@ -1,5 +1,5 @@
 -- Monomials in cells, in the words of the crate laws.
---   next_rows, row_within, row_length   the cells of one monomial
+--   row_end, next_rows, row_within, row_length   the cells of one monomial
 --   part_end                       its exponent bytes in a record
 --   area                           how many exponents a record has at most
 --   part_row                       the part of the cells that is lent for it
@@ -14,7 +14,7 @@ use mathlib.Core.Bool.{Bool, true, false, not, ◌&&◌}
 use mathlib.Core.List.{List, [], ◌∷◌}
 use Prim.Native.Nat.{ℕ, suc, ◌+◌, ◌*◌, ◌-◌, ◌≤◌, ◌<◌, Ordering}
 use native.Mathlib.Omega.{arith}
-use native.Mathlib.Nat.{mul_assoc, mul_comm, mul-le-mul, suc-mul}
+use native.Mathlib.Nat.{mul_assoc, mul_comm, mul-le-mul, mul-le-mul_right, suc-mul}
 use native.Mathlib.Numerals.{add-one}
 use lib.ListN.{length, take, drop, length-take, length-drop, drop_of_length-le}
 use lib.Seq.{drop-cons}
@@ -23,9 +23,8 @@ use Rattle.laws.specs.Monomial.{divides}
 use Rattle.laws.specs.Ideal.{listed}
 use Rattle.laws.specs.Order.{degrevlex}
 use Rattle.laws.specs.Minimal.{proper, minimal_in}
-use Rattle.laws.proofs.Ideal.{listed_count, row_end}
+use Rattle.laws.proofs.Ideal.{listed_count}
 use Rattle.laws.proofs.Reading.{listed_at}
-use Rattle.monomials.specs.Limits.{max_width, max_count}
 use Rattle.monomials.specs.Monomial.{order_of}
 use Rattle.monomials.specs.Monomial.{degrevlex_answer, divides_answer}
 use Rattle.monomials.specs.declared.refusal.Refusal.{Refusal}
@@ -35,7 +34,11 @@ use Rattle.monomials.specs.declared.monomial.OrderOutcome.{OrderOutcome}
 use Rattle.monomials.specs.declared.monomial.OrderAnswer.{OrderAnswer}
 use Rattle.monomials.specs.declared.monomial.TestOutcome.{TestOutcome}
 use Rattle.monomials.specs.declared.monomial.TestAnswer.{TestAnswer}
-use Rattle.records.specs.Rows.{row, less_is, is_less, max_cells}
+use Rattle.records.specs.Rows.{row, less_is, is_less}
+
+-- the cells of monomial i of s end within s * n
+pub row_end : (n s i : ℕ) → i < s → i * n + n ≤ s * n
+row_end n s i h = omega (arith, mul-le-mul_right n h, suc-mul i n)
 
 -- the cells of one monomial more
 pub next_rows : (n k : ℕ) → (k + 1) * n ≡ k * n + n
@@ -50,7 +53,7 @@ pub part_end : (n m k : ℕ) → k < m → 2 * n * k + 2 * n ≤ 2 * (m * n)
 part_end n m k h = omega (arith, mul_assoc 2 n k, mul_comm n k, row_end n m k h)
 
 -- all exponents of a record
-pub area : (m n : ℕ) → m ≤ max_count → n ≤ max_width → m * n ≤ max_cells
+pub area : (m n : ℕ) → m ≤ 60 → n ≤ 255 → m * n ≤ 15300
 area m n h g = mul-le-mul h g
 
 pub row_length : (n i : ℕ) (cells : List ℕ) → i * n + n ≤ length cells → length (row n cells i) ≡ n
@@ -60,41 +63,41 @@ row_length n i cells h = simp (length-take, length-drop) (omega arith)
 pub part_row : (n i : ℕ) (cells : List ℕ) → take (i * n + n - i * n) (drop (i * n) cells) ≡ row n cells i
 part_row n i cells = let e : i * n + n - i * n ≡ n = omega arith in rw e
 
-module _ (n i j : ℕ) (cells : List ℕ) (h : n ≤ max_width) (f : i * n + n ≤ length cells) (g : j * n + n ≤ length cells) where
+module _ (n i j : ℕ) (cells : List ℕ) (h : n ≤ 255) (f : i * n + n ≤ length cells) (g : j * n + n ≤ length cells) where
   same_width : length (row n cells j) ≡ length (row n cells i)
   same_width = row_length n j cells g ∙ sym (row_length n i cells f)
 
-  narrow : length (row n cells i) ≤ max_width
+  narrow : length (row n cells i) ≤ 255
   narrow = omega (arith, row_length n i cells f)
 
-  order_answer_lem : (r : OrderAnswer) → r ≡ degrevlex_answer (take (i * n + n - i * n) (drop (i * n) cells)) (take (j * n + n - j * n) (drop (j * n) cells))
+  order_answer_lem : (r : OrderAnswer) → r ≡ degrevlex_answer 255 (take (i * n + n - i * n) (drop (i * n) cells)) (take (j * n + n - j * n) (drop (j * n) cells))
       → r.outcome ≡ OrderOutcome.Value (order_of (degrevlex (row n cells i) (row n cells j)))
   order_answer_lem r p =
       ap (λ (a : OrderAnswer). a.outcome) p
-      ∙ rw (part_row n i cells, part_row n j cells, le-ltb max_width (length (row n cells i)) narrow, eq-eqb (length (row n cells j)) (length (row n cells i)) same_width)
+      ∙ rw (part_row n i cells, part_row n j cells, le-ltb 255 (length (row n cells i)) narrow, eq-eqb (length (row n cells j)) (length (row n cells i)) same_width)
 
   -- the value is the comparison
-  pub compared : (r : OrderAnswer) (o : Order) → r ≡ degrevlex_answer (take (i * n + n - i * n) (drop (i * n) cells)) (take (j * n + n - j * n) (drop (j * n) cells))
+  pub compared : (r : OrderAnswer) (o : Order) → r ≡ degrevlex_answer 255 (take (i * n + n - i * n) (drop (i * n) cells)) (take (j * n + n - j * n) (drop (j * n) cells))
       → r.outcome ≡ OrderOutcome.Value o → o ≡ order_of (degrevlex (row n cells i) (row n cells j))
   compared r o p q = let z = order_answer_lem r p in cc
 
   -- and it is not refused
-  pub unrefused : (r : OrderAnswer) (x : Refusal) → r ≡ degrevlex_answer (take (i * n + n - i * n) (drop (i * n) cells)) (take (j * n + n - j * n) (drop (j * n) cells))
+  pub unrefused : (r : OrderAnswer) (x : Refusal) → r ≡ degrevlex_answer 255 (take (i * n + n - i * n) (drop (i * n) cells)) (take (j * n + n - j * n) (drop (j * n) cells))
       → r.outcome ≡ OrderOutcome.Refused x → ⊥
   unrefused r x p q = let z = order_answer_lem r p in let e : ◌≡◌ {A = ℕ} 0 1 = cc in omega arith
 
-  test_answer_lem : (r : TestAnswer) → r ≡ divides_answer (take (i * n + n - i * n) (drop (i * n) cells)) (take (j * n + n - j * n) (drop (j * n) cells))
+  test_answer_lem : (r : TestAnswer) → r ≡ divides_answer 255 (take (i * n + n - i * n) (drop (i * n) cells)) (take (j * n + n - j * n) (drop (j * n) cells))
       → r.outcome ≡ TestOutcome.Value (divides (row n cells i) (row n cells j))
   test_answer_lem r p =
       ap (λ (a : TestAnswer). a.outcome) p
-      ∙ rw (part_row n i cells, part_row n j cells, le-ltb max_width (length (row n cells i)) narrow, eq-eqb (length (row n cells j)) (length (row n cells i)) same_width)
+      ∙ rw (part_row n i cells, part_row n j cells, le-ltb 255 (length (row n cells i)) narrow, eq-eqb (length (row n cells j)) (length (row n cells i)) same_width)
 
   -- the value is the test
-  pub divided : (r : TestAnswer) (t : Bool) → r ≡ divides_answer (take (i * n + n - i * n) (drop (i * n) cells)) (take (j * n + n - j * n) (drop (j * n) cells))
+  pub divided : (r : TestAnswer) (t : Bool) → r ≡ divides_answer 255 (take (i * n + n - i * n) (drop (i * n) cells)) (take (j * n + n - j * n) (drop (j * n) cells))
       → r.outcome ≡ TestOutcome.Value t → t ≡ divides (row n cells i) (row n cells j)
   divided r t p q = let z = test_answer_lem r p in cc
 
-  pub undivided : (r : TestAnswer) (x : Refusal) → r ≡ divides_answer (take (i * n + n - i * n) (drop (i * n) cells)) (take (j * n + n - j * n) (drop (j * n) cells))
+  pub undivided : (r : TestAnswer) (x : Refusal) → r ≡ divides_answer 255 (take (i * n + n - i * n) (drop (i * n) cells)) (take (j * n + n - j * n) (drop (j * n) cells))
       → r.outcome ≡ TestOutcome.Refused x → ⊥
   undivided r x p q = let z = test_answer_lem r p in let e : ◌≡◌ {A = ℕ} 0 1 = cc in omega arith
 

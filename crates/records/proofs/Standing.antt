@@ -25,7 +25,6 @@ use Rattle.laws.specs.Record.{value, is_record, exponents_in, list_in, width_in,
 use Rattle.laws.proofs.Monomial.{and_left, and_right, bool_ext}
 use Rattle.laws.proofs.Minimal.{Chain, Undivided}
 use Rattle.laws.proofs.Reading.{byte_at, cells_in_length, record_tests}
-use Rattle.monomials.specs.Limits.{max_count}
 use Rattle.records.specs.Rows.{row, is_greater, above, stands, header_stands, Ample}
 use Rattle.records.proofs.Cells.{listed_next, area}
 
@@ -73,76 +72,76 @@ and_false true = refl
 and_false false = refl
 
 -- seven bytes at least
-pub header_short : (bytes : List ℕ) → length bytes < 7 → header_stands bytes ≡ false
-header_short bytes h =
-    rw (ne_eqb (length bytes) (7 + 2 * (count_in bytes * width_in bytes)) (λ e. omega arith), and_false (leb (count_in bytes) max_count), and_false (eqb (value (take 4 (drop 1 bytes))) (length bytes - 5)))
+pub header_short : (C : ℕ) (bytes : List ℕ) → length bytes < 7 → header_stands C bytes ≡ false
+header_short C bytes h =
+    rw (ne_eqb (length bytes) (7 + 2 * (count_in bytes * width_in bytes)) (λ e. omega arith), and_false (leb (count_in bytes) C), and_false (eqb (value (take 4 (drop 1 bytes))) (length bytes - 5)))
     (and_false (eqb (get_or bytes 0 0) 1))
 
-module _ (bytes : List ℕ) (h : are_bytes bytes ≡ true) where
-  stands_record : (header_stands bytes && stands (list_in bytes)) ≡ true → is_record max_count bytes ≡ true
+module _ (C : ℕ) (bytes : List ℕ) (h : are_bytes bytes ≡ true) where
+  stands_record : (header_stands C bytes && stands (list_in bytes)) ≡ true → is_record C bytes ≡ true
   stands_record e =
       let v = eqb (get_or bytes 0 0) 1 in
       let f = eqb (value (take 4 (drop 1 bytes))) (length bytes - 5) in
-      let k = leb (count_in bytes) max_count in
+      let k = leb (count_in bytes) C in
       let t = eqb (length bytes) (7 + 2 * (count_in bytes * width_in bytes)) in
-      let p : (v && (f && (k && t))) ≡ true = and_left (header_stands bytes) (stands (list_in bytes)) e in
+      let p : (v && (f && (k && t))) ≡ true = and_left (header_stands C bytes) (stands (list_in bytes)) e in
       let q : (f && (k && t)) ≡ true = and_right v (f && (k && t)) p in
       let r : (k && t) ≡ true = and_right f (k && t) q in
-      let s = stands_chain (list_in bytes) (and_right (header_stands bytes) (stands (list_in bytes)) e) in
-      (record_tests max_count bytes h).1 (record {
+      let s = stands_chain (list_in bytes) (and_right (header_stands C bytes) (stands (list_in bytes)) e) in
+      (record_tests C bytes h).1 (record {
         version = eqb-true (get_or bytes 0 0) 1 (and_left v (f && (k && t)) p);
         field = eqb-true (value (take 4 (drop 1 bytes))) (length bytes - 5) (and_left f (k && t) q);
-        few = leb-true (count_in bytes) max_count (and_left k t r);
+        few = leb-true (count_in bytes) C (and_left k t r);
         total = eqb-true (length bytes) (7 + 2 * (count_in bytes * width_in bytes)) (and_right k t r);
         chain = s.0;
         undivided = s.1;
       })
 
-  record_holds : is_record max_count bytes ≡ true → (header_stands bytes && stands (list_in bytes)) ≡ true
+  record_holds : is_record C bytes ≡ true → (header_stands C bytes && stands (list_in bytes)) ≡ true
   record_holds e =
-      let t = (record_tests max_count bytes h).0 e in
+      let t = (record_tests C bytes h).0 e in
       ap₂ ◌&&◌
       (ap₂ ◌&&◌ (eq-eqb (get_or bytes 0 0) 1 t.version)
       (ap₂ ◌&&◌ (eq-eqb (value (take 4 (drop 1 bytes))) (length bytes - 5) t.field)
-      (ap₂ ◌&&◌ (le-leb (count_in bytes) max_count t.few) (eq-eqb (length bytes) (7 + 2 * (count_in bytes * width_in bytes)) t.total))))
+      (ap₂ ◌&&◌ (le-leb (count_in bytes) C t.few) (eq-eqb (length bytes) (7 + 2 * (count_in bytes * width_in bytes)) t.total))))
       (chain_stands (list_in bytes) t.chain t.undivided)
 
   -- so a record is known by its header and its list
-  pub record_stands : is_record max_count bytes ≡ (header_stands bytes && stands (list_in bytes))
-  record_stands = bool_ext (is_record max_count bytes) (header_stands bytes && stands (list_in bytes)) record_holds stands_record
+  pub record_stands : is_record C bytes ≡ (header_stands C bytes && stands (list_in bytes))
+  record_stands = bool_ext (is_record C bytes) (header_stands C bytes && stands (list_in bytes)) record_holds stands_record
 
   -- the list decides where the header stands
-  pub record_list_stands : header_stands bytes ≡ true → stands (list_in bytes) ≡ is_record max_count bytes
+  pub record_list_stands : header_stands C bytes ≡ true → stands (list_in bytes) ≡ is_record C bytes
   record_list_stands e = sym (record_stands ∙ ap (λ (t : Bool). t && stands (list_in bytes)) e)
 
   -- and bytes whose header does not stand are no record
-  pub record_header_falls : header_stands bytes ≡ false → false ≡ is_record max_count bytes
+  pub record_header_falls : header_stands C bytes ≡ false → false ≡ is_record C bytes
   record_header_falls e = sym (record_stands ∙ ap (λ (t : Bool). t && stands (list_in bytes)) e)
 
-  pub record_header : is_record max_count bytes ≡ true → header_stands bytes ≡ true
-  record_header e = and_left (header_stands bytes) (stands (list_in bytes)) (record_holds e)
+  pub record_header : is_record C bytes ≡ true → header_stands C bytes ≡ true
+  record_header e = and_left (header_stands C bytes) (stands (list_in bytes)) (record_holds e)
 
 -- what a header that stands says
 
-module _ (bytes : List ℕ) (h : header_stands bytes ≡ true) where
-  counted : (leb (count_in bytes) max_count && eqb (length bytes) (7 + 2 * (count_in bytes * width_in bytes))) ≡ true
+module _ (C : ℕ) (bytes : List ℕ) (h : header_stands C bytes ≡ true) where
+  counted : (leb (count_in bytes) C && eqb (length bytes) (7 + 2 * (count_in bytes * width_in bytes))) ≡ true
   counted =
       let f = eqb (value (take 4 (drop 1 bytes))) (length bytes - 5) in
-      let r = leb (count_in bytes) max_count && eqb (length bytes) (7 + 2 * (count_in bytes * width_in bytes)) in
+      let r = leb (count_in bytes) C && eqb (length bytes) (7 + 2 * (count_in bytes * width_in bytes)) in
       and_right f r (and_right (eqb (get_or bytes 0 0) 1) (f && r) h)
 
-  pub header_few : count_in bytes ≤ max_count
-  header_few = leb-true (count_in bytes) max_count (and_left (leb (count_in bytes) max_count) (eqb (length bytes) (7 + 2 * (count_in bytes * width_in bytes))) counted)
+  pub header_few : count_in bytes ≤ C
+  header_few = leb-true (count_in bytes) C (and_left (leb (count_in bytes) C) (eqb (length bytes) (7 + 2 * (count_in bytes * width_in bytes))) counted)
 
   pub header_total : length bytes ≡ 7 + 2 * (count_in bytes * width_in bytes)
   header_total =
       eqb-true (length bytes) (7 + 2 * (count_in bytes * width_in bytes))
-      (and_right (leb (count_in bytes) max_count) (eqb (length bytes) (7 + 2 * (count_in bytes * width_in bytes))) counted)
+      (and_right (leb (count_in bytes) C) (eqb (length bytes) (7 + 2 * (count_in bytes * width_in bytes))) counted)
 
-pub header_fits : (rec cells : List ℕ) → are_bytes rec ≡ true → Ample rec cells → header_stands rec ≡ true → count_in rec * width_in rec ≤ length cells
+pub header_fits : (rec cells : List ℕ) → are_bytes rec ≡ true → Ample rec cells → header_stands 60 rec ≡ true → count_in rec * width_in rec ≤ length cells
 header_fits rec cells b (inl l) h =
-    omega (arith, area (count_in rec) (width_in rec) (header_few rec h) (omega (arith, byte_at rec 5 b)), l)
-header_fits rec cells b (inr l) h = omega (arith, header_total rec h, l)
+    omega (arith, area (count_in rec) (width_in rec) (header_few 60 rec h) (omega (arith, byte_at rec 5 b)), l)
+header_fits rec cells b (inr l) h = omega (arith, header_total 60 rec h, l)
 
 -- the cells that were copied, whatever stands behind them
 pub copied : (count : ℕ) (bytes d cells : List ℕ) → length bytes ≡ 7 + 2 * count → cells ≡ exponents_in bytes ++ d → take (count - 0) (drop 0 cells) ≡ exponents_in bytes

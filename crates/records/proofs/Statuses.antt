@@ -20,12 +20,11 @@ use borrow.Author.Tests.{le-ltb, eq-eqb, eqb-true}
 use Rattle.laws.specs.Dimension.{dimension, top_degree}
 use Rattle.laws.specs.Record.{answer_record, is_record, exponents_in, list_in, width_in, count_in}
 use Rattle.laws.proofs.Reading.{byte_at, cells_in_length, record_tests}
-use Rattle.monomials.specs.Limits.{max_width, max_count, max_degree}
 use Rattle.monomials.specs.Refusal.{Check, refusal, number}
 use Rattle.monomials.specs.declared.refusal.Refusal.{Refusal}
-use Rattle.monomials.specs.List.{list_checks}
+use Rattle.numbers.specs.Numerator.{list_checks}
 use Rattle.numbers.specs.Dimension.{at_once, bound_checks, room_checks}
-use Rattle.records.specs.Answer.{answer_of, answer_size}
+use Rattle.records.specs.Answer.{answer_of}
 use Rattle.records.specs.Ideal.{not_record}
 use Rattle.records.specs.Host.{own_cells, own_coefficients, own_words, record_checks, status, host_number, host_bytes}
 use Rattle.records.proofs.Answers.{a_record, no_record}
@@ -52,31 +51,31 @@ asked [] a = refl
 asked (c ∷ cs) a = asked_first c.0 c.1 (refusal cs) a.0 (asked cs a.1)
 
 -- the checks of a list pass where its width, count and cells are right
-list_passes : (n s : ℕ) (cells : List ℕ) (cs : List Check) → n ≤ max_width → s ≤ max_count → length cells ≡ s * n → refusal (list_checks n s cells ++ cs) ≡ refusal cs
-list_passes n s cells cs h g f = rw (le-ltb max_width n h, le-ltb max_count s g, eq-eqb (length cells) (s * n) f)
+list_passes : (W C n s : ℕ) (cells : List ℕ) (cs : List Check) → n ≤ W → s ≤ C → length cells ≡ s * n → refusal (list_checks W C n s cells ++ cs) ≡ refusal cs
+list_passes W C n s cells cs h g f = rw (le-ltb W n h, le-ltb C s g, eq-eqb (length cells) (s * n) f)
 
-module _ (rec : List ℕ) (bytes : are_bytes rec ≡ true) where
+module _ (W C M : ℕ) (rec : List ℕ) (bytes : are_bytes rec ≡ true) (w : 255 ≤ W) where
   -- the checks of a record that are left when those of its list have passed
   abbrev left : Bool → List Check
-  left t = cond t [] (bound_checks (width_in rec) (list_in rec) ++ room_checks (width_in rec) (list_in rec) own_cells own_coefficients own_coefficients own_words)
+  left t = cond t [] (bound_checks M (width_in rec) (list_in rec) ++ room_checks (width_in rec) (list_in rec) own_cells own_coefficients own_coefficients own_words)
 
   left_asked : (t : Bool) → is_status (status (refusal (left t))) ≡ true
   left_asked true = refl
   left_asked false = asked (left false) (refl, (refl, (refl, (refl, (refl, tt)))))
 
-  taken : is_record max_count rec ≡ true → is_status (status (refusal (record_checks rec))) ≡ true
+  taken : is_record C rec ≡ true → is_status (status (refusal (record_checks W C M rec))) ≡ true
   taken e =
-      let t = (record_tests max_count rec bytes).0 e in
+      let t = (record_tests C rec bytes).0 e in
       let l : length (exponents_in rec) ≡ count_in rec * width_in rec = cells_in_length (drop 7 rec) ∙ omega (arith, length-drop 7 rec, t.total) in
-      ap (λ (o : Option Refusal). is_status (status o)) (list_passes (width_in rec) (count_in rec) (exponents_in rec) (left (at_once (width_in rec) (list_in rec))) (omega (arith, byte_at rec 5 bytes)) t.few l)
+      ap (λ (o : Option Refusal). is_status (status o)) (list_passes W C (width_in rec) (count_in rec) (exponents_in rec) (left (at_once (width_in rec) (list_in rec))) (omega (arith, byte_at rec 5 bytes)) t.few l)
       ∙ left_asked (at_once (width_in rec) (list_in rec))
 
-  number_is : is_status (status (refusal (not_record rec ∷ record_checks rec))) ≡ true
-  number_is = go (is_record max_count rec) refl
+  number_is : is_status (status (refusal (not_record C rec ∷ record_checks W C M rec))) ≡ true
+  number_is = go (is_record C rec) refl
     where
-      go : (t : Bool) → is_record max_count rec ≡ t → is_status (status (refusal (not_record rec ∷ record_checks rec))) ≡ true
-      go true e = ap (λ (o : Option Refusal). is_status (status o)) (a_record rec (record_checks rec) e) ∙ taken e
-      go false e = ap (λ (o : Option Refusal). is_status (status o)) (no_record rec (record_checks rec) e)
+      go : (t : Bool) → is_record C rec ≡ t → is_status (status (refusal (not_record C rec ∷ record_checks W C M rec))) ≡ true
+      go true e = ap (λ (o : Option Refusal). is_status (status o)) (a_record C rec (record_checks W C M rec) e) ∙ taken e
+      go false e = ap (λ (o : Option Refusal). is_status (status o)) (no_record C rec (record_checks W C M rec) e)
 
 -- byte 5 of an answer record
 status_at : (k x t : ℕ) (rest : List ℕ) → get_or (answer_of k x t ++ rest) 5 0 ≡ k
@@ -92,18 +91,18 @@ is_never k h = (never 1 refl, never 2 refl, never 3 refl, never 14 refl)
     never : (j : ℕ) → is_status j ≡ false → k ≢ j
     never j f e = false≢true (sym f ∙ ap is_status (sym e) ∙ h)
 
-module _ (rec out : List ℕ) (room : answer_size ≤ length out) where
-  pub status_written : get_or (host_bytes rec out) 5 0 ≡ host_number rec out
+module _ (W C M S : ℕ) (rec out : List ℕ) (room : S ≤ length out) where
+  pub status_written : get_or (host_bytes W C M S rec out) 5 0 ≡ host_number W C M S rec out
   status_written =
-      ap (λ (l : List ℕ). get_or l 5 0) (roomy_bytes rec out room)
-      ∙ status_at (host_number rec out) (dimension (width_in rec) (list_in rec)) (top_degree (width_in rec) (list_in rec)) (drop answer_size out)
+      ap (λ (l : List ℕ). get_or l 5 0) (roomy_bytes W C M rec S out room)
+      ∙ status_at (host_number W C M S rec out) (dimension (width_in rec) (list_in rec)) (top_degree (width_in rec) (list_in rec)) (drop S out)
 
-  module _ (bytes : are_bytes rec ≡ true) where
-    pub status_is : is_status (get_or (host_bytes rec out) 5 0) ≡ true
+  module _ (bytes : are_bytes rec ≡ true) (w : 255 ≤ W) where
+    pub status_is : is_status (get_or (host_bytes W C M S rec out) 5 0) ≡ true
     status_is =
         ap is_status status_written
-        ∙ ap (λ (o : Option Refusal). is_status (status o)) (roomy rec out room)
-        ∙ number_is rec bytes
+        ∙ ap (λ (o : Option Refusal). is_status (status o)) (roomy W C M rec S out room)
+        ∙ number_is W C M rec bytes w
 
-    pub status_never : Never (get_or (host_bytes rec out) 5 0)
-    status_never = is_never (get_or (host_bytes rec out) 5 0) status_is
+    pub status_never : Never (get_or (host_bytes W C M S rec out) 5 0)
+    status_never = is_never (get_or (host_bytes W C M S rec out) 5 0) status_is

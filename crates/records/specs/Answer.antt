@@ -1,6 +1,5 @@
--- The call that writes an answer record.
---   answer_size                == the bytes of an answer record
---   answer_checks out          == the order of checks: 14
+-- The call that writes an answer record. S is its size.
+--   answer_checks S out        == the order of checks: 14
 --   answer_of s x t            == the record with status s, dimension x and top degree t; where s is not 0, both numbers are 0
 --   answer_outcome, answer_bytes == the answer, and the output after the call
 -- Assumes nothing.
@@ -11,27 +10,24 @@ use Rattle.monomials.specs.declared.refusal.Refusal.TheVariants.{Output}
 use Rattle.records.specs.Ideal.{check_answer}
 use Rattle.records.specs.declared.ideal.CheckAnswer.{CheckAnswer}
 
-abbrev pub answer_size : ℕ
-answer_size = 26
-
-abbrev pub answer_checks : List ℕ → List Check
-answer_checks out = (ltb (length out) answer_size, Output) ∷ []
+abbrev pub answer_checks : ℕ → List ℕ → List Check
+answer_checks S out = (ltb (length out) S, Output) ∷ []
 
 abbrev pub answer_of : ℕ → ℕ → ℕ → List ℕ
 answer_of s x t = cond (eqb s 0) (answer_record 0 x t) (answer_record s 0 0)
 
-abbrev pub answer_outcome : List ℕ → CheckAnswer
-answer_outcome out = check_answer (refusal (answer_checks out))
+abbrev pub answer_outcome : ℕ → List ℕ → CheckAnswer
+answer_outcome S out = check_answer (refusal (answer_checks S out))
 
-abbrev pub answer_bytes : ℕ → ℕ → ℕ → List ℕ → List ℕ
-answer_bytes s x t out = after (refusal (answer_checks out)) (answer_of s x t ++ drop answer_size out) out
+abbrev pub answer_bytes : ℕ → ℕ → ℕ → ℕ → List ℕ → List ℕ
+answer_bytes S s x t out = after (refusal (answer_checks S out)) (answer_of s x t ++ drop S out) out
 
 -- with a refusal both numbers are zero
 test_refused : answer_of 13 3 2 ≡ answer_record 13 0 0
 test_refused = refl
 
-test_kept : answer_bytes 0 3 2 (replicate 27 7) ≡ answer_record 0 3 2 ++ 7 ∷ []
+test_kept : answer_bytes 26 0 3 2 (replicate 27 7) ≡ answer_record 0 3 2 ++ 7 ∷ []
 test_kept = refl
 
-test_short : answer_bytes 0 3 2 (replicate 25 7) ≡ replicate 25 7
+test_short : answer_bytes 26 0 3 2 (replicate 25 7) ≡ replicate 25 7
 test_short = refl

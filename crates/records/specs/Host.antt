@@ -1,4 +1,5 @@
--- The call behind the program `dim` and the host in C: an ideal record's bytes in, an answer record out.
+-- The call behind the program `dim` and the host in C: an ideal record's bytes in, an answer record out. W is the greatest width, C the
+-- greatest count, M the greatest degree bound, S the size of an answer record.
 --   own_cells, own_coefficients, own_words == the call's own rooms: 16,384 exponent cells, 4,096 coefficients twice, 4,096 words
 --   record_checks  == the dimension's checks, of what a record lists and in these rooms
 --   host_checks    == the order of checks: 14, 12, then the dimension's
@@ -27,33 +28,33 @@ own_coefficients = replicate 4096 (pos 0)
 abbrev pub own_words : List ℕ
 own_words = replicate 4096 0
 
-abbrev pub record_checks : List ℕ → List Check
-record_checks rec = dimension_checks (width_in rec) (count_in rec) (exponents_in rec) own_cells own_coefficients own_coefficients own_words
+abbrev pub record_checks : ℕ → ℕ → ℕ → List ℕ → List Check
+record_checks W C M rec = dimension_checks W C M (width_in rec) (count_in rec) (exponents_in rec) own_cells own_coefficients own_coefficients own_words
 
-abbrev pub host_checks : List ℕ → List ℕ → List Check
-host_checks rec out = answer_checks out ++ not_record rec ∷ record_checks rec
+abbrev pub host_checks : ℕ → ℕ → ℕ → ℕ → List ℕ → List ℕ → List Check
+host_checks W C M S rec out = answer_checks S out ++ not_record C rec ∷ record_checks W C M rec
 
 abbrev pub status : Option Refusal → ℕ
 status none = 0
 status (some r) = number r
 
-abbrev pub host_answer : List ℕ → List ℕ → CheckAnswer
-host_answer rec out = check_answer (refusal (host_checks rec out))
+abbrev pub host_answer : ℕ → ℕ → ℕ → ℕ → List ℕ → List ℕ → CheckAnswer
+host_answer W C M S rec out = check_answer (refusal (host_checks W C M S rec out))
 
-abbrev pub host_number : List ℕ → List ℕ → ℕ
-host_number rec out = status (refusal (host_checks rec out))
+abbrev pub host_number : ℕ → ℕ → ℕ → ℕ → List ℕ → List ℕ → ℕ
+host_number W C M S rec out = status (refusal (host_checks W C M S rec out))
 
-abbrev pub host_bytes : List ℕ → List ℕ → List ℕ
-host_bytes rec out =
-    answer_bytes (host_number rec out) (dimension (width_in rec) (list_in rec)) (top_degree (width_in rec) (list_in rec)) out
+abbrev pub host_bytes : ℕ → ℕ → ℕ → ℕ → List ℕ → List ℕ → List ℕ
+host_bytes W C M S rec out =
+    answer_bytes S (host_number W C M S rec out) (dimension (width_in rec) (list_in rec)) (top_degree (width_in rec) (list_in rec)) out
 
 -- of an output of k sevens
 
 abbrev number_at : List ℕ → ℕ → ℕ
-number_at rec k = host_number rec (replicate k 7)
+number_at rec k = host_number 255 60 65536 26 rec (replicate k 7)
 
 abbrev bytes_at : List ℕ → ℕ → List ℕ
-bytes_at rec k = host_bytes rec (replicate k 7)
+bytes_at rec k = host_bytes 255 60 65536 26 rec (replicate k 7)
 
 test_done : bytes_at (ideal_record 2 ((2 ∷ 0 ∷ []) ∷ (1 ∷ 1 ∷ []) ∷ (0 ∷ 2 ∷ []) ∷ [])) 28 ≡ answer_record 0 3 2 ++ 7 ∷ 7 ∷ []
 test_done = refl

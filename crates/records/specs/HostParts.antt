@@ -8,7 +8,7 @@ use Rattle.std.specs.Prelude.{List, ◌∷◌, ℕ}
 use Rattle.laws.specs.Record.{width_in, list_in}
 use Rattle.monomials.specs.Refusal.{refusal, number}
 use Rattle.monomials.specs.declared.refusal.Refusal.{Refusal}
-use Rattle.words.specs.Wide.{value, wide}
+use Rattle.numbers.specs.Wide.{value, wide}
 use Rattle.numbers.specs.Dimension.{dimension_is}
 use Rattle.numbers.specs.declared.dimension.DimensionOutcome.{DimensionOutcome}
 use Rattle.numbers.specs.declared.dimension.DimensionAnswer.{DimensionAnswer}
@@ -18,8 +18,8 @@ use Rattle.records.specs.Ideal.{not_record}
 use Rattle.records.specs.declared.ideal.CheckOutcome.{CheckOutcome}
 use Rattle.records.specs.declared.host.Told.{Told}
 
-abbrev pub record_answer : List ℕ → DimensionAnswer
-record_answer rec = dimension_is (refusal (not_record rec ∷ record_checks rec)) (width_in rec) (list_in rec)
+abbrev pub record_answer : ℕ → ℕ → ℕ → List ℕ → DimensionAnswer
+record_answer W C M rec = dimension_is (refusal (not_record C rec ∷ record_checks W C M rec)) (width_in rec) (list_in rec)
 
 abbrev pub refused_as : Refusal → Told
 refused_as r = record { outcome = CheckOutcome.Refused r; dimension = wide 0; top = 0 }

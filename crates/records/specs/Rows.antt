@@ -6,8 +6,7 @@
 --   less_is o          == the code's order o says less
 --   above a L         == a is greater than the first of L by DegRevLex, if L has one
 --   stands L          == each member of L is greater than the next, and divided by no later one
---   header_stands bytes == version, length field, count and size of bytes are those of a record
---   max_cells          == the exponents of the largest record
+--   header_stands C bytes == version, length field, count and size of bytes are those of a record of at most C monomials
 --   Ample rec cells   == the cells have room for the exponents of every record, or of every one that is no longer than rec
 --   seat_of a K        == how many of K are greater than a, before the first that is not
 --   same_at a K        == a is the first of K
@@ -17,7 +16,6 @@ use Prim.Native.Nat.{ℕ, suc, ◌+◌, ◌*◌, ◌-◌, ◌≤◌, ◌<◌, Or
 use Rattle.laws.specs.Ideal.{multiple}
 use Rattle.laws.specs.Order.{degrevlex}
 use Rattle.laws.specs.Record.{value, width_in, count_in}
-use Rattle.monomials.specs.Limits.{max_width, max_count}
 use Rattle.monomials.specs.declared.monomial.Order.{Order}
 use Rattle.monomials.specs.declared.monomial.Order.TheVariants.{Less, Equal, Greater}
 
@@ -59,18 +57,15 @@ abbrev pub stands : List (List ℕ) → Bool
 stands [] = true
 stands (a ∷ L) = above a L && (not (multiple L a) && stands L)
 
-abbrev pub header_stands : List ℕ → Bool
-header_stands bytes =
+abbrev pub header_stands : ℕ → List ℕ → Bool
+header_stands C bytes =
     eqb (get_or bytes 0 0) 1
     && (eqb (value (take 4 (drop 1 bytes))) (length bytes - 5)
-    && (leb (count_in bytes) max_count
+    && (leb (count_in bytes) C
     && eqb (length bytes) (7 + 2 * (count_in bytes * width_in bytes))))
 
-abbrev pub max_cells : ℕ
-max_cells = max_width * max_count
-
 abbrev pub Ample : List ℕ → List ℕ → Type 0
-Ample rec cells = (max_cells ≤ length cells) ⊎ (length rec ≤ 2 * length cells + 7)
+Ample rec cells = (15300 ≤ length cells) ⊎ (length rec ≤ 2 * length cells + 7)
 
 abbrev pub seat_of : List ℕ → List (List ℕ) → ℕ
 seat_of a [] = 0

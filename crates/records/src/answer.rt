@@ -1,13 +1,13 @@
 // The answer record: a status, and where it is 0 a dimension and a top degree.
 ghost use Rattle.std.specs.Prelude.{◌≡◌, ◌++◌, ◌≤◌, length, drop};
 ghost use Rattle.laws.specs.Record.{answer_record};
-ghost use Rattle.words.specs.Wide.{value};
+ghost use Rattle.numbers.specs.Wide.{value};
 ghost use Rattle.records.specs.Answer.{answer_outcome, answer_bytes};
 
 use crate::bytes::put_number;
 use crate::ideal::{CheckAnswer, CheckOutcome};
 use monomials::refusal::Refusal;
-use words::wide::Wide;
+use numbers::wide::Wide;
 
 // The bytes of an answer record.
 pub const ANSWER_SIZE: usize = 26;
@@ -15,8 +15,8 @@ pub const ANSWER_SIZE: usize = 26;
 // Writes the answer record with this status, dimension and top degree; past it the output is kept. Where the status is not 0 both numbers are
 // written as 0.
 pub fn write_answer(status: u8, dimension: Wide, top: u32, out: &mut [u8]) -> CheckAnswer
-    ensures value { result ≡ answer_outcome out.old }
-    ensures out_after { out.new ≡ answer_bytes status (value dimension) top out.old }
+    ensures value { result ≡ answer_outcome ANSWER_SIZE out.old }
+    ensures out_after { out.new ≡ answer_bytes ANSWER_SIZE status (value dimension) top out.old }
 {
     if out.len() < ANSWER_SIZE {
         return CheckAnswer {

@@ -2,15 +2,15 @@
 ghost use Rattle.std.specs.Prelude.{◌≡◌, ◌∷◌, ◌++◌, ◌+◌, ◌*◌, ◌≤◌, ◌<◌, length, take, drop};
 ghost use Rattle.laws.specs.Ideal.{listed};
 ghost use Rattle.laws.specs.Minimal.{insert, minimal};
-ghost use Rattle.monomials.specs.Limits.{max_width};
 ghost use Rattle.records.specs.Rows.{row, rows_at, seat_of, same_at, less_is, Below};
 
 use crate::rows::{compare_rows, is_minimal};
 use monomials::monomial::Order;
+use monomials::refusal::MAX_WIDTH;
 
 // Writes the places of the minimal monomials, and tells how many they are.
 pub(crate) fn choose(n: usize, s: usize, cells: &[u16], places: &mut [usize]) -> usize
-    requires n_le_max_width { n ≤ max_width }
+    requires n_le_max_width { n ≤ MAX_WIDTH }
     requires cells_len { (length cells.now ≡ s * n) × (s ≤ length places.old) }
     ensures { (rows_at n cells.now (take result places.new) ≡ minimal (listed n s cells.now)) × (result ≤ s) × Below s (take result places.new) }
 {
@@ -27,7 +27,7 @@ pub(crate) fn choose(n: usize, s: usize, cells: &[u16], places: &mut [usize]) ->
 
 // Puts place i among the first m places, which fall, unless its monomial is there; tells how many there are then.
 fn insert_row(n: usize, s: usize, cells: &[u16], places: &mut [usize], m: usize, i: usize) -> usize
-    requires n_le_max_width { n ≤ max_width }
+    requires n_le_max_width { n ≤ MAX_WIDTH }
     requires cells_len { (length cells.now ≡ s * n) × (m < length places.old) × (i < s) × Below s (take m places.old) }
     ensures { (rows_at n cells.now (take result places.new) ≡ insert (row n cells.now i) (rows_at n cells.now (take m places.old))) × (result ≤ m + 1) × Below s (take result places.new) }
 {
@@ -41,7 +41,7 @@ fn insert_row(n: usize, s: usize, cells: &[u16], places: &mut [usize], m: usize,
 
 // How many of the first m places have a monomial greater than that of i, before the first that has not.
 fn seat(n: usize, s: usize, cells: &[u16], places: &[usize], m: usize, i: usize) -> usize
-    requires n_le_max_width { n ≤ max_width }
+    requires n_le_max_width { n ≤ MAX_WIDTH }
     requires cells_len { (length cells.now ≡ s * n) × (m ≤ length places.now) × (i < s) × Below s (take m places.now) }
     ensures { (result ≡ seat_of (row n cells.now i) (rows_at n cells.now (take m places.now))) × (result ≤ m) }
 {
@@ -66,7 +66,7 @@ fn is_there(
     i: usize,
     p: usize,
 ) -> bool
-    requires n_le_max_width { n ≤ max_width }
+    requires n_le_max_width { n ≤ MAX_WIDTH }
     requires cells_len { (length cells.now ≡ s * n) × (m ≤ length places.now) × (i < s) × Below s (take m places.now) }
     ensures { result ≡ same_at (row n cells.now i) (drop p (rows_at n cells.now (take m places.now))) }
 {

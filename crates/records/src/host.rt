@@ -2,7 +2,6 @@
 // call's own, so it takes the stack that they need.
 ghost use Rattle.std.specs.Prelude.{◌≡◌, ◌++◌, ◌^◌, ◌<◌, ◌≤◌, pos, length, drop, replicate};
 ghost use Rattle.numbers.specs.Dimension.{dimension_answer};
-ghost use Rattle.records.specs.Answer.{answer_size};
 ghost use Rattle.records.specs.Host.{own_cells, own_coefficients, own_words, host_answer, host_number, host_bytes};
 ghost use Rattle.records.specs.HostParts.{record_answer, refused_as, status_of, told_bytes, told_of};
 ghost use Rattle.records.specs.Rows.{Ample};
@@ -11,9 +10,10 @@ use crate::answer::{ANSWER_SIZE, write_answer};
 use crate::ideal::{
     CheckAnswer, CheckOutcome, CopyOutcome, FEW_CELLS, MAX_CELLS, SHORT_RECORD, read_record,
 };
-use monomials::refusal::{Refusal, number_of};
+use monomials::refusal::{MAX_COUNT, MAX_WIDTH, Refusal, number_of};
 use numbers::dimension::{DimensionAnswer, DimensionOutcome, quotient_dimension};
-use words::wide::Wide;
+use numbers::hf_at::MAX_DEGREE;
+use numbers::wide::Wide;
 
 // The exponent cells of the call's own room.
 const CELL_ROOM: usize = 16384;
@@ -36,8 +36,8 @@ struct Told {
 // Writes the answer record of an ideal record: the dimension and the top degree of what it lists, or the number of what is refused. Past it
 // the output is kept, and an output with too few bytes is left as it is.
 pub fn answer_record(rec: &[u8], out: &mut [u8]) -> CheckAnswer
-    ensures value { result ≡ host_answer rec.now out.old }
-    ensures out_after { out.new ≡ host_bytes rec.now out.old }
+    ensures value { result ≡ host_answer MAX_WIDTH MAX_COUNT MAX_DEGREE ANSWER_SIZE rec.now out.old }
+    ensures out_after { out.new ≡ host_bytes MAX_WIDTH MAX_COUNT MAX_DEGREE ANSWER_SIZE rec.now out.old }
 {
     if out.len() < ANSWER_SIZE {
         return CheckAnswer {
@@ -50,8 +50,8 @@ pub fn answer_record(rec: &[u8], out: &mut [u8]) -> CheckAnswer
 // The same for a host in C, which is told the number.
 #[unsafe(no_mangle)]
 pub extern "C" fn purlthicket_dim(rec: &[u8], out: &mut [u8]) -> u8
-    ensures value { result ≡ host_number rec.now out.old }
-    ensures out_after { out.new ≡ host_bytes rec.now out.old }
+    ensures value { result ≡ host_number MAX_WIDTH MAX_COUNT MAX_DEGREE ANSWER_SIZE rec.now out.old }
+    ensures out_after { out.new ≡ host_bytes MAX_WIDTH MAX_COUNT MAX_DEGREE ANSWER_SIZE rec.now out.old }
 {
     let outcome = answer_record(rec, out).outcome;
     status(outcome)
@@ -59,7 +59,7 @@ pub extern "C" fn purlthicket_dim(rec: &[u8], out: &mut [u8]) -> u8
 
 // The dimension of what the record lists, or what is refused; a short record has fewer cells, as in `is_record`.
 fn dimension_of(rec: &[u8]) -> Told
-    ensures { result ≡ told_of (record_answer rec.now) }
+    ensures { result ≡ told_of (record_answer MAX_WIDTH MAX_COUNT MAX_DEGREE rec.now) }
 {
     if rec.len() <= SHORT_RECORD {
         return in_few_cells(rec);
@@ -70,7 +70,7 @@ fn dimension_of(rec: &[u8]) -> Told
 // The same for a short record.
 fn in_few_cells(rec: &[u8]) -> Told
     requires { length rec.now ≤ SHORT_RECORD }
-    ensures { result ≡ told_of (record_answer rec.now) }
+    ensures { result ≡ told_of (record_answer MAX_WIDTH MAX_COUNT MAX_DEGREE rec.now) }
 {
     let mut cells = [0u16; FEW_CELLS];
     dimension_in(rec, &mut cells)
@@ -78,7 +78,7 @@ fn in_few_cells(rec: &[u8]) -> Told
 
 // The same for any record.
 fn in_all_cells(rec: &[u8]) -> Told
-    ensures { result ≡ told_of (record_answer rec.now) }
+    ensures { result ≡ told_of (record_answer MAX_WIDTH MAX_COUNT MAX_DEGREE rec.now) }
 {
     let mut cells = [0u16; MAX_CELLS];
     dimension_in(rec, &mut cells)
@@ -87,7 +87,7 @@ fn in_all_cells(rec: &[u8]) -> Told
 // The same, the exponents copied into `cells`.
 fn dimension_in(rec: &[u8], cells: &mut [u16]) -> Told
     requires { Ample rec.now cells.old }
-    ensures { result ≡ told_of (record_answer rec.now) }
+    ensures { result ≡ told_of (record_answer MAX_WIDTH MAX_COUNT MAX_DEGREE rec.now) }
 {
     let outcome = read_record(rec, cells).outcome;
     match outcome {
@@ -104,7 +104,7 @@ fn dimension_in(rec: &[u8], cells: &mut [u16]) -> Told
 // The dimension of the m monomials in `cells`, in rooms of this call's own. Large rooms take longer to clear than the count of a short list, so
 // smaller ones are tried before, and for few exponents tiny ones before these.
 fn in_own_rooms(n: usize, m: usize, cells: &[u16]) -> Told
-    ensures { result ≡ told_of (dimension_answer n m cells.now own_cells own_coefficients own_coefficients own_words) }
+    ensures { result ≡ told_of (dimension_answer MAX_WIDTH MAX_COUNT MAX_DEGREE n m cells.now own_cells own_coefficients own_coefficients own_words) }
 {
     if 16 < cells.len() {
         return in_small_or_large_rooms(n, m, cells);
@@ -119,7 +119,7 @@ fn in_own_rooms(n: usize, m: usize, cells: &[u16]) -> Told
 
 // The same, the small rooms tried first.
 fn in_small_or_large_rooms(n: usize, m: usize, cells: &[u16]) -> Told
-    ensures { result ≡ told_of (dimension_answer n m cells.now own_cells own_coefficients own_coefficients own_words) }
+    ensures { result ≡ told_of (dimension_answer MAX_WIDTH MAX_COUNT MAX_DEGREE n m cells.now own_cells own_coefficients own_coefficients own_words) }
 {
     let answer = in_small_rooms(n, m, cells);
     let outcome = answer.outcome;
@@ -131,7 +131,7 @@ fn in_small_or_large_rooms(n: usize, m: usize, cells: &[u16]) -> Told
 
 // The same in tiny rooms.
 fn in_tiny_rooms(n: usize, m: usize, cells: &[u16]) -> Told
-    ensures { result ≡ told_of (dimension_answer n m cells.now (replicate 256 0) (replicate 16 (pos 0)) (replicate 16 (pos 0)) (replicate 32 0)) }
+    ensures { result ≡ told_of (dimension_answer MAX_WIDTH MAX_COUNT MAX_DEGREE n m cells.now (replicate 256 0) (replicate 16 (pos 0)) (replicate 16 (pos 0)) (replicate 32 0)) }
 {
     let mut room = [0u16; 256];
     let mut first = [0i64; 16];
@@ -142,7 +142,7 @@ fn in_tiny_rooms(n: usize, m: usize, cells: &[u16]) -> Told
 
 // The same in small rooms.
 fn in_small_rooms(n: usize, m: usize, cells: &[u16]) -> Told
-    ensures { result ≡ told_of (dimension_answer n m cells.now (replicate 2048 0) (replicate 128 (pos 0)) (replicate 128 (pos 0)) (replicate 128 0)) }
+    ensures { result ≡ told_of (dimension_answer MAX_WIDTH MAX_COUNT MAX_DEGREE n m cells.now (replicate 2048 0) (replicate 128 (pos 0)) (replicate 128 (pos 0)) (replicate 128 0)) }
 {
     let mut room = [0u16; 2048];
     let mut first = [0i64; 128];
@@ -153,7 +153,7 @@ fn in_small_rooms(n: usize, m: usize, cells: &[u16]) -> Told
 
 // The same in the rooms that the call's refusals speak of.
 fn in_large_rooms(n: usize, m: usize, cells: &[u16]) -> Told
-    ensures { result ≡ told_of (dimension_answer n m cells.now own_cells own_coefficients own_coefficients own_words) }
+    ensures { result ≡ told_of (dimension_answer MAX_WIDTH MAX_COUNT MAX_DEGREE n m cells.now own_cells own_coefficients own_coefficients own_words) }
 {
     let mut room = [0u16; CELL_ROOM];
     let mut first = [0i64; COEFFICIENT_ROOM];
@@ -203,9 +203,9 @@ fn status(outcome: CheckOutcome) -> u8
 
 // Writes the answer record.
 fn tell(answer: Told, out: &mut [u8]) -> CheckAnswer
-    requires { (answer.top < 2 ^ 32) × (answer_size ≤ length out.old) }
+    requires { (answer.top < 2 ^ 32) × (ANSWER_SIZE ≤ length out.old) }
     ensures value { result ≡ record { outcome = answer.outcome } }
-    ensures out_after { out.new ≡ told_bytes answer ++ drop answer_size out.old }
+    ensures out_after { out.new ≡ told_bytes answer ++ drop ANSWER_SIZE out.old }
 {
     let outcome = answer.outcome;
     write_answer(status(outcome), answer.dimension, answer.top as u32, out);

@@ -3,7 +3,6 @@
 ghost use Rattle.std.specs.Prelude.{true, ◌≡◌, [], ◌∷◌, ◌++◌, ◌+◌, ◌*◌, ◌≤◌, ◌<◌, length, take, drop};
 ghost use Rattle.std.proofs.lemmas.List.Edits.{sets};
 ghost use Rattle.laws.specs.Record.{big_endian, exponent_bytes, is_record, width_in, count_in, exponents_in};
-ghost use Rattle.monomials.specs.Limits.{max_width, max_count};
 ghost use Rattle.records.specs.Rows.{rows_at, Below, header_stands, Ample};
 ghost use Rattle.records.specs.Ideal.{write_answer, write_bytes, place_answer, place_part, copy_answer, copy_cells};
 
@@ -69,8 +68,8 @@ pub struct CopyAnswer {
 
 // Writes the record of the list of s monomials of width n that lies in the cells, and tells its size; past it the output is kept.
 pub fn write_record(n: usize, s: usize, cells: &[u16], out: &mut [u8]) -> SizeAnswer
-    ensures value { result ≡ write_answer n s cells.now out.old }
-    ensures out_after { out.new ≡ write_bytes n s cells.now out.old }
+    ensures value { result ≡ write_answer MAX_WIDTH MAX_COUNT n s cells.now out.old }
+    ensures out_after { out.new ≡ write_bytes MAX_WIDTH MAX_COUNT n s cells.now out.old }
 {
     if MAX_WIDTH < n {
         return size_refused(Refusal::Width);
@@ -96,7 +95,7 @@ pub fn write_record(n: usize, s: usize, cells: &[u16], out: &mut [u8]) -> SizeAn
 
 // Whether the bytes are a record that has a monomial at place k.
 pub fn check_place(rec: &[u8], k: usize) -> CheckAnswer
-    ensures { result ≡ place_answer rec.now k }
+    ensures { result ≡ place_answer MAX_COUNT rec.now k }
 {
     if !is_record(rec) {
         return CheckAnswer {
@@ -115,7 +114,7 @@ pub fn check_place(rec: &[u8], k: usize) -> CheckAnswer
 
 // The exponent bytes of the monomial at place k, as a part of the record; the empty part where `check_place` refuses.
 pub fn place(rec: &[u8], k: usize) -> &[u8]
-    ensures { result.now ≡ place_part rec.now k }
+    ensures { result.now ≡ place_part MAX_COUNT rec.now k }
 {
     if !is_record(rec) {
         return &rec[0..0];
@@ -132,8 +131,8 @@ pub fn place(rec: &[u8], k: usize) -> &[u8]
 
 // Copies all exponents of a record into the first cells, and tells its width and its count; past them the cells are kept.
 pub fn copy_record(rec: &[u8], cells: &mut [u16]) -> CopyAnswer
-    ensures value { result ≡ copy_answer rec.now cells.old }
-    ensures cells_after { cells.new ≡ copy_cells rec.now cells.old }
+    ensures value { result ≡ copy_answer MAX_COUNT rec.now cells.old }
+    ensures cells_after { cells.new ≡ copy_cells MAX_COUNT rec.now cells.old }
 {
     if !is_record(rec) {
         return copy_refused(Refusal::Record);
@@ -153,8 +152,8 @@ pub fn copy_record(rec: &[u8], cells: &mut [u16]) -> CopyAnswer
 // The same into cells that are enough, where the exponents are checked too: after a refusal the cells may be changed.
 pub(crate) fn read_record(rec: &[u8], cells: &mut [u16]) -> CopyAnswer
     requires { Ample rec.now cells.old }
-    ensures value { result ≡ copy_answer rec.now cells.old }
-    ensures cells_after { is_record max_count rec.now ≡ true → cells.new ≡ copy_cells rec.now cells.old }
+    ensures value { result ≡ copy_answer MAX_COUNT rec.now cells.old }
+    ensures cells_after { is_record MAX_COUNT rec.now ≡ true → cells.new ≡ copy_cells MAX_COUNT rec.now cells.old }
 {
     if !header_stands(rec) {
         return copy_refused(Refusal::Record);
@@ -188,7 +187,7 @@ fn copy_refused(refusal: Refusal) -> CopyAnswer
 
 // Whether the bytes are a record of at most MAX_COUNT monomials.
 pub(crate) fn is_record(rec: &[u8]) -> bool
-    ensures { result ≡ is_record max_count rec.now }
+    ensures { result ≡ is_record MAX_COUNT rec.now }
 {
     if !header_stands(rec) {
         return false;
@@ -203,8 +202,8 @@ pub(crate) fn is_record(rec: &[u8]) -> bool
 
 // The same for bytes whose header stands, the exponents copied into `cells`.
 fn list_stands(rec: &[u8], cells: &mut [u16]) -> bool
-    requires { (header_stands rec.now ≡ true) × Ample rec.now cells.old }
-    ensures value { result ≡ is_record max_count rec.now }
+    requires { (header_stands 60 rec.now ≡ true) × Ample rec.now cells.old }
+    ensures value { result ≡ is_record 60 rec.now }
     ensures cells_after { cells.new ≡ exponents_in rec.now ++ drop (count_in rec.now * width_in rec.now) cells.old }
 {
     let n = wide(rec[5]);
@@ -216,7 +215,7 @@ fn list_stands(rec: &[u8], cells: &mut [u16]) -> bool
 
 // Whether version, length field, count and size are right.
 fn header_stands(rec: &[u8]) -> bool
-    ensures { result ≡ header_stands rec.now }
+    ensures { result ≡ header_stands MAX_COUNT rec.now }
 {
     if rec.len() < 7 {
         return false;
@@ -236,7 +235,7 @@ fn header_stands(rec: &[u8]) -> bool
 
 // Writes what stands before the exponents of m monomials of width n.
 fn put_header(out: &mut [u8], n: usize, m: usize)
-    requires n_le_max_width { (n ≤ max_width) × (m ≤ max_count) }
+    requires n_le_max_width { (n ≤ MAX_WIDTH) × (m ≤ MAX_COUNT) }
     requires in_bounds { 7 ≤ length out.old }
     ensures { out.new ≡ sets out.old 0 (1 ∷ big_endian 4 (2 + 2 * (m * n)) ++ n ∷ m ∷ []) }
 {

@@ -4,15 +4,15 @@ ghost use Rattle.laws.specs.Monomial.{divides as dividesOf};
 ghost use Rattle.laws.specs.Ideal.{listed, multiple};
 ghost use Rattle.laws.specs.Order.{degrevlex};
 ghost use Rattle.laws.specs.Minimal.{proper, minimal_in};
-ghost use Rattle.monomials.specs.Limits.{max_width};
 ghost use Rattle.monomials.specs.Monomial.{order_of};
 ghost use Rattle.records.specs.Rows.{row, above, stands};
 
 use monomials::monomial::{Order, OrderOutcome, TestOutcome, cmp_degrevlex, divides};
+use monomials::refusal::MAX_WIDTH;
 
 // How monomial i compares with monomial j by DegRevLex.
 pub(crate) fn compare_rows(n: usize, cells: &[u16], i: usize, j: usize) -> Order
-    requires n_le_max_width { n ≤ max_width }
+    requires n_le_max_width { n ≤ MAX_WIDTH }
     requires n_in_bounds { (i * n + n ≤ length cells.now) × (j * n + n ≤ length cells.now) }
     ensures { result ≡ order_of (degrevlex (row n cells.now i) (row n cells.now j)) }
 {
@@ -29,7 +29,7 @@ pub(crate) fn compare_rows(n: usize, cells: &[u16], i: usize, j: usize) -> Order
 
 // Whether monomial i divides monomial j.
 pub(crate) fn row_divides(n: usize, cells: &[u16], i: usize, j: usize) -> bool
-    requires n_le_max_width { n ≤ max_width }
+    requires n_le_max_width { n ≤ MAX_WIDTH }
     requires n_in_bounds { (i * n + n ≤ length cells.now) × (j * n + n ≤ length cells.now) }
     ensures { result ≡ dividesOf (row n cells.now i) (row n cells.now j) }
 {
@@ -46,7 +46,7 @@ pub(crate) fn row_divides(n: usize, cells: &[u16], i: usize, j: usize) -> bool
 
 // Whether each of m monomials is greater than the next, and divided by no later one.
 pub(crate) fn rows_stand(n: usize, m: usize, cells: &[u16]) -> bool
-    requires n_le_max_width { n ≤ max_width }
+    requires n_le_max_width { n ≤ MAX_WIDTH }
     requires cells_len { length cells.now ≡ m * n }
     ensures { result ≡ stands (listed n m cells.now) }
 {
@@ -65,7 +65,7 @@ pub(crate) fn rows_stand(n: usize, m: usize, cells: &[u16]) -> bool
 
 // Whether monomial i is greater than the next one, if there is one.
 fn above_next(n: usize, m: usize, cells: &[u16], i: usize) -> bool
-    requires n_le_max_width { n ≤ max_width }
+    requires n_le_max_width { n ≤ MAX_WIDTH }
     requires cells_len { (length cells.now ≡ m * n) × (i < m) }
     ensures { result ≡ above (row n cells.now i) (drop (i + 1) (listed n m cells.now)) }
 {
@@ -82,7 +82,7 @@ fn above_next(n: usize, m: usize, cells: &[u16], i: usize) -> bool
 
 // Whether a later monomial divides monomial i.
 fn divided_later(n: usize, m: usize, cells: &[u16], i: usize) -> bool
-    requires n_le_max_width { n ≤ max_width }
+    requires n_le_max_width { n ≤ MAX_WIDTH }
     requires cells_len { (length cells.now ≡ m * n) × (i < m) }
     ensures { result ≡ multiple (drop (i + 1) (listed n m cells.now)) (row n cells.now i) }
 {
@@ -98,7 +98,7 @@ fn divided_later(n: usize, m: usize, cells: &[u16], i: usize) -> bool
 
 // Whether no monomial is a proper divisor of monomial i.
 pub(crate) fn is_minimal(n: usize, s: usize, cells: &[u16], i: usize) -> bool
-    requires n_le_max_width { n ≤ max_width }
+    requires n_le_max_width { n ≤ MAX_WIDTH }
     requires cells_len { (length cells.now ≡ s * n) × (i < s) }
     ensures { result ≡ minimal_in (listed n s cells.now) (row n cells.now i) }
 {
@@ -114,7 +114,7 @@ pub(crate) fn is_minimal(n: usize, s: usize, cells: &[u16], i: usize) -> bool
 
 // Whether monomial i divides monomial j and is not divided by it.
 fn properly_divides(n: usize, cells: &[u16], i: usize, j: usize) -> bool
-    requires n_le_max_width { n ≤ max_width }
+    requires n_le_max_width { n ≤ MAX_WIDTH }
     requires n_in_bounds { (i * n + n ≤ length cells.now) × (j * n + n ≤ length cells.now) }
     ensures { result ≡ proper (row n cells.now i) (row n cells.now j) }
 {

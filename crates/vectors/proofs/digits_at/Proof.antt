@@ -54,7 +54,7 @@ digits_at_spec =
     let v = p6.loop.magnitude in
     let digit : is_digit (get_or s i 0) ≡ true = sym p3.is_digit.ensures ∙ not-false _ p2.if1.false in
     (omega arith, sym (value_more s i (omega arith) v c.with_digit.result digit c.with_digit.ensures) ∙ p6.loop.invariant.1, sym (end_more s i (omega arith) digit) ∙ p6.loop.invariant.2))
-    -- returns_2
+    -- returns-2
     (λ c.
     let p3 = c.before.before.before in
     let s = p3.args.text.now in

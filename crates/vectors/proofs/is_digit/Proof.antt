@@ -10,5 +10,5 @@ is_digit_spec =
     (tie.spec
     -- returns
     (λ c. rw (le-leb _ _ c.if1.true))
-    -- returns_2
+    -- returns-2
     (λ c. rw (lt-leb _ _ c.if1.false)))

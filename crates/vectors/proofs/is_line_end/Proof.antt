@@ -10,7 +10,7 @@ is_line_end_spec =
     (tie.spec
     -- returns
     (λ c. rw (eq-eqb _ _ c.if1.true))
-    -- returns_2
+    -- returns-2
     (λ c.
     let p1 = c.before in
     let a = p1.before.args in
@@ -18,5 +18,5 @@ is_line_end_spec =
     rw (ne_eqb a.at 0 p1.if1.false, get_or-eq_default a.text.now 0 past))
     (λ c. search rules)
     (λ c. search rules)
-    -- returns_3
+    -- returns-3
     (λ c. rw (ne_eqb _ _ c.before.before.if1.false)))

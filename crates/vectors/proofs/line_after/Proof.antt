@@ -37,7 +37,7 @@ line_after_spec =
     let s = p4.args.text.now in
     let i = p3.loop.i in
     (omega arith, sym (line_more s i (omega arith) c.if1.false) ∙ p3.loop.invariant.1))
-    -- returns_2
+    -- returns-2
     (λ c.
     let p2 = c.before.before in
     let s = p2.args.text.now in

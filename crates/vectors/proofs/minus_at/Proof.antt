@@ -10,5 +10,5 @@ minus_at_spec =
     (tie.spec
     (λ c. search rules)
     (λ c. search rules)
-    -- returns_2
+    -- returns-2
     (λ c. rw (get_or-eq_default c.before.args.text.now 0 c.if1.false)))

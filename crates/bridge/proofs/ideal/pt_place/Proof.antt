@@ -17,10 +17,10 @@ pt_place_spec =
     (λ c. simp (lt-ltb _ _ c.before.before.if1.true) (c.tell.ensures.0, (refl, c.tell.ensures.1)))
     (λ c κs. search rules)
     -- copy-front-requires
-    (λ c κs. let a = c.before.before.before.before.before.args in omega (arith, ap length c.before.place.ensures, part_fits a.rec.now a.k (omega (arith, c.before.before.before.before.shared-slice-known.given 5))))
+    (λ c κs. let a = c.before.before.before.before.before.args in omega (arith, ap length c.before.place.ensures, part_fits 60 a.rec.now a.k (omega (arith, c.before.before.before.before.shared-slice-known.given 5))))
     (λ c κs. search rules)
     (λ c κs. search rules)
     (λ c κs. search rules)
     (λ c. search rules)
-    -- returns_2
+    -- returns-2
     (λ c. let part = c.before.before.before.before.before.before.before.before.place.ensures in let told = rw (c.before.before.before.check_place.ensures, part) at c.before.before.of_check.ensures in simp (le-ltb _ _ c.before.before.before.before.before.before.before.before.before.if1.false) (rw told at c.tell2.ensures.0, (rw part at c.before.before.before.before.before.before.copy_front.ensures, rw told at c.tell2.ensures.1))))

@@ -12,5 +12,5 @@ of_order_spec =
     (λ c. search rules)
     -- returns
     (λ c. rw (c.before.before.outcome.given.1, c.order_word.ensures))
-    -- returns_2
+    -- returns-2
     (λ c. rw c.before.outcome2.given.1))

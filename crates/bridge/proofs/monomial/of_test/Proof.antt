@@ -12,5 +12,5 @@ of_test_spec =
     (λ c. search rules)
     -- returns
     (λ c. rw (c.before.before.outcome.given.1, c.bit_of.ensures))
-    -- returns_2
+    -- returns-2
     (λ c. rw c.before.outcome2.given.1))

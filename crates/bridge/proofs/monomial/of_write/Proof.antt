@@ -11,5 +11,5 @@ of_write_spec =
     (λ c. search rules)
     -- returns
     (λ c. search rules)
-    -- returns_2
+    -- returns-2
     (λ c. rw c.before.outcome.given.1))

@@ -11,5 +11,5 @@ of_length_spec =
     (λ c. search rules)
     -- returns
     (λ c. rw c.before.outcome.given.1)
-    -- returns_2
+    -- returns-2
     (λ c. rw c.before.outcome2.given.1))

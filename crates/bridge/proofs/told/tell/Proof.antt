@@ -13,5 +13,5 @@ tell_spec =
     (λ c κs. search rules)
     -- returns
     (λ c. rw c.before.before.told.given.1 (refl, refl))
-    -- returns_2
+    -- returns-2
     (λ c. rw c.before.before.told2.given.1 (c.number_of_lem.ensures, refl)))

@@ -6,12 +6,13 @@ use Prim.Native.Nat.{◌-◌, ◌≤◌}
 use lib.ListN.{length, drop}
 use borrow.Author.Tests.{not-true, not-false}
 use Rattle.monomials.specs.Cells.{passes_of, all_cells}
+use Rattle.monomials.proofs.Checks.{max_exponent}
 use Rattle.monomials.proofs.Pairs.{all_pass, all_stop, all_end}
 use Rattle.monomials.proofs.cells.all_cells.Statement.{statement}
 use Rattle.monomials.proofs.cells.all_cells.Tie as tie
 
 abbrev invariant-loop : tie.invariant-loop
-invariant-loop test a b i₀ i = (i ≤ length a) × (all_cells (passes_of test) a b ≡ all_cells (passes_of test) (drop i a) (drop i b))
+invariant-loop test a b i₀ i = (i ≤ length a) × (all_cells (passes_of max_exponent test) a b ≡ all_cells (passes_of max_exponent test) (drop i a) (drop i b))
 
 abbrev decreases-loop : tie.decreases-loop
 decreases-loop test a b i₀ i = length a - i
@@ -36,7 +37,7 @@ all_cells_spec =
     let a = p8.args.a.now in
     let b = p8.args.b.now in
     let i = p5.loop.i in
-    let p = passes_of p8.args.test in
+    let p = passes_of max_exponent p8.args.test in
     sym (p5.loop.invariant.1 ∙ all_stop p a b i (omega arith) (omega arith) (sym c.before.passes.ensures ∙ not-true _ c.if1.true)))
     (λ c. search rules)
     (λ c. search rules)
@@ -47,13 +48,13 @@ all_cells_spec =
     let a = p8.args.a.now in
     let b = p8.args.b.now in
     let i = p5.loop.i in
-    let p = passes_of p8.args.test in
+    let p = passes_of max_exponent p8.args.test in
     (omega arith, p5.loop.invariant.1 ∙ all_pass p a b i (omega arith) (omega arith) (sym c.before.passes.ensures ∙ not-false _ c.if1.false)))
-    -- returns_2
+    -- returns-2
     (λ c.
     let p4 = c.before.before.before.before in
     let a = p4.args.a.now in
     let b = p4.args.b.now in
     let i = c.before.loop.i in
-    let p = passes_of p4.args.test in
+    let p = passes_of max_exponent p4.args.test in
     sym (c.before.loop.invariant.1 ∙ all_end p a b i (omega arith))))

@@ -16,13 +16,13 @@ combined_spec =
     (λ c. search rules)
     -- returns
     (λ c. rw c.enum_told.given.1)
-    -- returns_2
+    -- returns-2
     (λ c. rw c.before.enum-told2.given.1 (omega arith))
-    -- returns_3
+    -- returns-3
     (λ c. rw c.before.enum-told2.given.1)
-    -- returns_4
+    -- returns-4
     (λ c. rw c.before.enum-told3.given.1 (omega arith))
-    -- returns_5
+    -- returns-5
     (λ c. rw c.before.enum-told3.given.1 (omega arith))
     -- returns-6
     (λ c. rw c.before.enum-told4.given.1 (omega arith))

@@ -15,11 +15,11 @@ passes_spec =
     (λ c. search rules)
     -- returns
     (λ c. rw c.enum_told.given.1)
-    -- returns_2
+    -- returns-2
     (λ c. rw c.enum-told2.given.1)
-    -- returns_3
+    -- returns-3
     (λ c. rw (c.before.enum-told3.given.1, eq-eqb _ _ c.if1.true))
-    -- returns_4
+    -- returns-4
     (λ c. rw (c.before.enum-told3.given.1, ne_eqb _ _ c.if1.false))
-    -- returns_5
+    -- returns-5
     (λ c. rw c.enum-told4.given.1))

@@ -15,9 +15,9 @@ bits_each_spec =
     -- returns
     (λ c. (rw c.if1.true, omega arith, omega arith))
     (λ c. search rules)
-    -- returns_2
+    -- returns-2
     (λ c. (sym (each_wide c.before.before.args.n c.if2.true), omega arith, omega arith))
-    -- returns_3
+    -- returns-3
     (λ c.
     let n = c.before.before.args.n in
     let e : bits_each n ≡ 128 / n = each_narrow n (omega arith) c.if2.false in

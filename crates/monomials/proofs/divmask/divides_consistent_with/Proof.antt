@@ -22,7 +22,7 @@ divides_consistent_with_spec =
     let b = p5.args.b in
     let both = within_both 64 a.low b.low a.high b.high (omega arith) (omega arith) (omega arith) (omega arith) in
     sym (ap (λ (t : Bool). t && eqb (bit_and a.high (2 ^ 64 - 1 - b.high)) 0) (eq-eqb _ _ p2.if1.true)) ∙ both)
-    -- returns_2
+    -- returns-2
     (λ c.
     let p3 = c.before.before.before in
     let a = p3.args.a in

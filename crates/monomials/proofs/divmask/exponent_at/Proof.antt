@@ -12,8 +12,8 @@ exponent_at_spec =
     (tie.spec
     (λ c. search rules)
     (λ c. search rules)
-    -- cast_result
+    -- cast-result
     (λ c. omega (arith, c.shared-slice-known.given c.before.before.args.v))
     (λ c. search rules)
-    -- returns_2
+    -- returns-2
     (λ c. sym (get_or-eq_default c.before.args.exps.now 0 c.if1.false)))

@@ -23,7 +23,7 @@ mask_spec =
     (λ c. simp (lt-ltb _ _ c.if1.true))
     (λ c κs. search rules)
     (λ c κs. search rules)
-    -- returns_2
+    -- returns-2
     (λ c.
     let p2 = c.before.before in
     let p4 = p2.before.before in

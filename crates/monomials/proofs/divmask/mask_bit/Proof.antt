@@ -22,7 +22,7 @@ mask_bit_spec =
     let a = p3.args in
     sym (mask_bit_outside a.n a.max-deg a.i c.before.bits_each.result a.exps.now (omega arith) c.before.bits_each.ensures.0 c.if1.true))
     (λ c κs. search rules)
-    -- returns_2
+    -- returns-2
     (λ c.
     let p1 = c.before in
     let p2 = p1.before in
@@ -37,7 +37,7 @@ mask_bit_spec =
     (λ c κs.
     let p5 = c.before.before.before.before.before in
     (omega arith, omega arith, mod-lt p5.args.i (omega arith)))
-    -- returns_3
+    -- returns-3
     (λ c.
     let p2 = c.before.before in
     let p3 = p2.before in

@@ -10,18 +10,18 @@ cmp_pair_spec =
     (tie.spec
     -- returns
     (λ c. simp (lt-ltb _ _ c.if1.true))
-    -- returns_2
+    -- returns-2
     (λ c. simp (le-ltb _ _ c.before.if1.false, ne_eqb _ _ c.if2.true))
     (λ c. search rules)
     (λ c κs. search rules)
     (λ c. search rules)
     (λ c κs. search rules)
-    -- returns_3
+    -- returns-3
     (λ c.
     let p3 = c.before.before.before in
     let p4 = p3.before in
     simp (le-ltb _ _ p4.if1.false, eq-eqb _ _ p3.if2.false, c.before.enum_told.given.1, c.lex_order.ensures))
-    -- returns_4
+    -- returns-4
     (λ c.
     let p3 = c.before.before.before in
     let p4 = p3.before in

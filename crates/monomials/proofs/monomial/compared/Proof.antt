@@ -11,11 +11,11 @@ compared_spec =
     (tie.spec
     -- returns
     (λ c. rw (says_compare Ordering.lt c.before.args.x c.before.args.y c.if1.true))
-    -- returns_2
+    -- returns-2
     (λ c.
     let p2 = c.before.before in
     rw (says_compare Ordering.eq p2.args.x p2.args.y c.if2.true))
-    -- returns_3
+    -- returns-3
     (λ c.
     let p2 = c.before.before in
     rw (says_compare Ordering.gt p2.args.x p2.args.y (omega arith))))

@@ -24,13 +24,13 @@ degrevlex_order_spec =
     let a = p7.args.a.now in
     let b = p7.args.b.now in
     rw (order_same (compare (degree a) (degree b)) Ordering.lt (cc)))
-    -- returns_2
+    -- returns-2
     (λ c.
     let p8 = c.before.before.before.before.before.before.before.before in
     let a = p8.args.a.now in
     let b = p8.args.b.now in
     rw (order_same (compare (degree a) (degree b)) Ordering.eq (cc)) (cc))
-    -- returns_3
+    -- returns-3
     (λ c.
     let p7 = c.before.before.before.before.before.before.before in
     let a = p7.args.a.now in

@@ -5,7 +5,7 @@ use Rattle.laws.specs.Monomial.{divides}
 use Rattle.monomials.specs.Cells.{passes_of, all_cells}
 use Rattle.monomials.specs.declared.cells.Test.TheVariants.{AtMost}
 use Rattle.monomials.specs.Monomial.{pair_checks}
-use Rattle.monomials.proofs.Checks.{pair_width, test_passed}
+use Rattle.monomials.proofs.Checks.{max_width, max_exponent, pair_width, test_passed}
 use Rattle.monomials.proofs.Pairs.{all_divides}
 use Rattle.monomials.proofs.monomial.divides.Statement.{statement}
 use Rattle.monomials.proofs.monomial.divides.Tie as tie
@@ -20,5 +20,5 @@ divides_spec =
     let p3 = c.before.before.before in
     let a = p3.args.a.now in
     let b = p3.args.b.now in
-    let checks = pair_checks a b in
-    c.test_pair.ensures ∙ test_passed checks (all_cells (passes_of AtMost) a b) (divides a b) (λ h. all_divides a b (pair_width a b h))))
+    let checks = pair_checks max_width a b in
+    c.test_pair.ensures ∙ test_passed checks (all_cells (passes_of max_exponent AtMost) a b) (divides a b) (λ h. all_divides max_exponent a b (pair_width max_width a b h))))

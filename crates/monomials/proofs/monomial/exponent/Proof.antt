@@ -10,12 +10,12 @@ exponent_spec =
     (tie.spec
     -- returns
     (λ c. simp (lt-ltb _ _ c.if1.true))
-    -- returns_2
+    -- returns-2
     (λ c. simp (le-ltb _ _ c.before.if1.false, le-leb _ _ c.if2.true))
     (λ c. search rules)
     (λ c. search rules)
     (λ c κs. search rules)
-    -- returns_3
+    -- returns-3
     (λ c.
     let p2 = c.before.before in
     let p3 = p2.before in

@@ -5,7 +5,7 @@ use Rattle.laws.specs.Monomial.{lcm}
 use Rattle.monomials.specs.Cells.{combined_of, zip_cells}
 use Rattle.monomials.specs.declared.cells.Combine.TheVariants.{Greater}
 use Rattle.monomials.specs.Monomial.{write_checks}
-use Rattle.monomials.proofs.Checks.{write_width, after_passed}
+use Rattle.monomials.proofs.Checks.{max_width, write_width, after_passed}
 use Rattle.monomials.proofs.Pairs.{zip_lcm}
 use Rattle.monomials.proofs.monomial.lcm.Statement.{statement}
 use Rattle.monomials.proofs.monomial.lcm.Tie as tie
@@ -23,5 +23,5 @@ lcm_spec =
     let a = p7.args.a.now in
     let b = p7.args.b.now in
     let out = p7.args.out.now in
-    let checks = write_checks a b out in
-    (p2.write_pair.ensures.0, p2.write_pair.ensures.1 ∙ after_passed checks (zip_cells (combined_of Greater) a b) (lcm a b) out (λ h. zip_lcm a b (write_width a b out h)))))
+    let checks = write_checks max_width a b out in
+    (p2.write_pair.ensures.0, p2.write_pair.ensures.1 ∙ after_passed checks (zip_cells (combined_of Greater) a b) (lcm a b) out (λ h. zip_lcm a b (write_width max_width a b out h)))))

@@ -54,7 +54,7 @@ lex_order_spec =
     let b = p7.args.b.now in
     let i = p4.loop.i in
     (omega arith, p4.loop.invariant.1 ∙ lex_next a b i (omega arith) (omega arith) c.if1.false))
-    -- returns_2
+    -- returns-2
     (λ c.
     let p4 = c.before.before.before.before in
     let a = p4.args.a.now in

@@ -10,7 +10,7 @@ one_width_spec =
     (tie.spec
     -- returns
     (λ c. simp (lt-ltb _ _ c.if1.true))
-    -- returns_2
+    -- returns-2
     (λ c. simp (le-ltb _ _ c.before.if1.false, ne_eqb _ _ c.if2.true))
-    -- returns_3
+    -- returns-3
     (λ c. simp (le-ltb _ _ c.before.if1.false, eq-eqb _ _ c.if2.false) (last_test _)))

@@ -13,14 +13,14 @@ power_spec =
     (λ c.
     (simp (c.refused.ensures, lt-ltb _ _ c.before.if1.true), simp (lt-ltb _ _ c.before.if1.true)))
     (λ c κs. search rules)
-    -- returns_2
+    -- returns-2
     (λ c.
     let p2 = c.before.before in
     let h = le-ltb _ _ p2.if1.false in
     let k = ne_eqb _ _ c.before.if2.true in
     (simp (c.refused2.ensures, h, k), simp (h, k)))
     (λ c κs. search rules)
-    -- returns_3
+    -- returns-3
     (λ c.
     let p2 = c.before.before in
     let p3 = p2.before in
@@ -32,7 +32,7 @@ power_spec =
     (λ c. search rules)
     (λ c. search rules)
     (λ c. search rules)
-    -- returns_4
+    -- returns-4
     (λ c.
     let p2 = c.before.before in
     let p4 = p2.before.before in

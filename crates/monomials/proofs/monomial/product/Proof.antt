@@ -2,13 +2,12 @@
 use borrow.Author.Rules.{rules}
 use mathlib.Core.Path.{◌∙◌}
 use Rattle.laws.specs.Monomial.{product}
-use Rattle.monomials.specs.Limits.{max_exponent}
 use Rattle.monomials.specs.Cells.{passes_of, combined_of, all_cells, zip_cells}
 use Rattle.monomials.specs.declared.cells.Test.TheVariants.{SumFits}
 use Rattle.monomials.specs.declared.cells.Combine.TheVariants.{Sum}
 use Rattle.monomials.specs.declared.refusal.Refusal.TheVariants.{Exponent}
 use Rattle.monomials.specs.Monomial.{at_most, write_checks}
-use Rattle.monomials.proofs.Checks.{write_width, tested_passed}
+use Rattle.monomials.proofs.Checks.{max_width, max_exponent, write_width, tested_passed}
 use Rattle.monomials.proofs.Pairs.{all_fits, zip_product}
 use Rattle.monomials.proofs.monomial.product.Statement.{statement}
 use Rattle.monomials.proofs.monomial.product.Tie as tie
@@ -26,5 +25,5 @@ product_spec =
     let a = p7.args.a.now in
     let b = p7.args.b.now in
     let out = p7.args.out.now in
-    let same = tested_passed (write_checks a b out) (all_cells (passes_of SumFits) a b) (at_most max_exponent (product a b)) Exponent (zip_cells (combined_of Sum) a b) (product a b) out (λ h. all_fits a b (write_width a b out h)) (λ h. zip_product a b (write_width a b out h)) in
+    let same = tested_passed (write_checks max_width a b out) (all_cells (passes_of max_exponent SumFits) a b) (at_most max_exponent (product a b)) Exponent (zip_cells (combined_of Sum) a b) (product a b) out (λ h. all_fits max_exponent a b (write_width max_width a b out h)) (λ h. zip_product a b (write_width max_width a b out h)) in
     (p2.write_if.ensures.0 ∙ same.0, p2.write_if.ensures.1 ∙ same.1)))

@@ -7,7 +7,7 @@ use Rattle.monomials.specs.declared.cells.Test.TheVariants.{AtLeast}
 use Rattle.monomials.specs.declared.cells.Combine.TheVariants.{Difference}
 use Rattle.monomials.specs.declared.refusal.Refusal.TheVariants.{Division}
 use Rattle.monomials.specs.Monomial.{write_checks}
-use Rattle.monomials.proofs.Checks.{write_width, tested_passed}
+use Rattle.monomials.proofs.Checks.{max_width, max_exponent, write_width, tested_passed}
 use Rattle.monomials.proofs.Pairs.{all_divisor, zip_quotient}
 use Rattle.monomials.proofs.monomial.quotient.Statement.{statement}
 use Rattle.monomials.proofs.monomial.quotient.Tie as tie
@@ -25,5 +25,5 @@ quotient_spec =
     let a = p7.args.a.now in
     let b = p7.args.b.now in
     let out = p7.args.out.now in
-    let same = tested_passed (write_checks a b out) (all_cells (passes_of AtLeast) a b) (divides b a) Division (zip_cells (combined_of Difference) a b) (quotient a b) out (λ h. all_divisor a b (write_width a b out h)) (λ h d. zip_quotient a b (write_width a b out h)) in
+    let same = tested_passed (write_checks max_width a b out) (all_cells (passes_of max_exponent AtLeast) a b) (divides b a) Division (zip_cells (combined_of Difference) a b) (quotient a b) out (λ h. all_divisor max_exponent a b (write_width max_width a b out h)) (λ h d. zip_quotient a b (write_width max_width a b out h)) in
     (p2.write_if.ensures.0 ∙ same.0, p2.write_if.ensures.1 ∙ same.1)))

@@ -60,7 +60,7 @@ revlex_order_spec =
     let i = p4.loop.i in
     let e : i - 1 + 1 ≡ i = omega arith in
     (omega arith, drop_back a b (i - 1) (omega arith) (omega arith) c.if1.false (rw e p4.loop.invariant.1)))
-    -- returns_2
+    -- returns-2
     (λ c.
     let p4 = c.before.before.before.before in
     let a = p4.args.a.now in

@@ -10,10 +10,10 @@ test_pair_spec =
     (tie.spec
     -- returns
     (λ c. simp (lt-ltb _ _ c.if1.true))
-    -- returns_2
+    -- returns-2
     (λ c. simp (le-ltb _ _ c.before.if1.false, ne_eqb _ _ c.if2.true))
     (λ c κs. search rules)
-    -- returns_3
+    -- returns-3
     (λ c.
     let p2 = c.before.before in
     simp (le-ltb _ _ p2.if1.false, eq-eqb _ _ c.before.if2.false, c.all_cells.ensures)))

@@ -11,5 +11,5 @@ total_degree_spec =
     -- returns
     (λ c. simp (lt-ltb _ _ c.if1.true))
     (λ c κs. search rules)
-    -- returns_2
+    -- returns-2
     (λ c. simp (le-ltb _ _ c.before.if1.false, c.degree_of.ensures)))

@@ -7,7 +7,7 @@ use mathlib.Core.Bool.{true, false, not, false≢true}
 use borrow.Author.Tests.{not-true, not-false}
 use Rattle.monomials.specs.Cells.{passed, passes_of, all_cells}
 use Rattle.monomials.specs.Monomial.{write_checks}
-use Rattle.monomials.proofs.Checks.{write_width, last_refuses, last_passes}
+use Rattle.monomials.proofs.Checks.{max_width, max_exponent, write_width, last_refuses, last_passes}
 use Rattle.monomials.proofs.monomial.write_if.Statement.{statement}
 use Rattle.monomials.proofs.monomial.write_if.Tie as tie
 
@@ -22,7 +22,7 @@ write_if_spec =
     let a = p5.args.a.now in
     let b = p5.args.b.now in
     let out = p5.args.out.now in
-    omega (arith, write_width a b out (sym c.before.one_Width.ensures ∙ c.if1.true)))
+    omega (arith, write_width max_width a b out (sym c.before.one_Width.ensures ∙ c.if1.true)))
     (λ c κs. search rules)
     -- returns
     (λ c.
@@ -31,22 +31,22 @@ write_if_spec =
     let p4 = p3.before in
     let p8 = p4.before.before.before.before in
     let p = p8.args in
-    let checks = write_checks p.a.now p.b.now p.out.now in
-    let ok = all_cells (passes_of p.test) p.a.now p.b.now in
+    let checks = write_checks max_width p.a.now p.b.now p.out.now in
+    let ok = all_cells (passes_of max_exponent p.test) p.a.now p.b.now in
     let bad : ok ≡ false = sym p2.all_cells.ensures ∙ not-true _ c.before.if2.true in
     let e = last_refuses checks (not ok) p.«refusal» (sym p4.one_Width.ensures ∙ p3.if1.true) (ap not bad) in
     (rw (c.refused.ensures, e), rw e))
     (λ c κs. search rules)
     (λ c. search rules)
-    -- returns_2
+    -- returns-2
     (λ c.
     let p2 = c.before.before in
     let p4 = p2.before.before in
     let p5 = p4.before in
     let p9 = p5.before.before.before.before in
     let p = p9.args in
-    let checks = write_checks p.a.now p.b.now p.out.now in
-    let ok = all_cells (passes_of p.test) p.a.now p.b.now in
+    let checks = write_checks max_width p.a.now p.b.now p.out.now in
+    let ok = all_cells (passes_of max_exponent p.test) p.a.now p.b.now in
     let fine : passed checks ≡ true → ok ≡ true = ⊎_elim (λ w h. sym w.1.ensures ∙ not-false _ w.2.left) (λ w h. absurd (false≢true (sym w.left ∙ p5.one_Width.ensures ∙ h))) p4.if1.branch in
     let e = last_passes checks (not ok) p.«refusal» (λ h. ap not (fine h)) in
     (rw e p2.write_pair.ensures.0, rw e p2.write_pair.ensures.1)))

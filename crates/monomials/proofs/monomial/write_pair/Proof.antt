@@ -12,14 +12,14 @@ write_pair_spec =
     -- returns
     (λ c. let h = lt-ltb _ _ c.before.if1.true in (simp (c.refused.ensures, h), simp h))
     (λ c κs. search rules)
-    -- returns_2
+    -- returns-2
     (λ c.
     let p2 = c.before.before in
     let h = le-ltb _ _ p2.if1.false in
     let k = ne_eqb _ _ c.before.if2.true in
     (simp (c.refused2.ensures, h, k), simp (h, k)))
     (λ c κs. search rules)
-    -- returns_3
+    -- returns-3
     (λ c.
     let p2 = c.before.before in
     let p3 = p2.before in
@@ -29,7 +29,7 @@ write_pair_spec =
     (simp (c.refused3.ensures, h, k, l), simp (h, k, l)))
     (λ c κs. search rules)
     (λ c. search rules)
-    -- returns_4
+    -- returns-4
     (λ c.
     let p2 = c.before.before in
     let p4 = p2.before.before in

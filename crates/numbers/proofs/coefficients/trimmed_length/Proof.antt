@@ -2,7 +2,7 @@ use Rattle.std.proofs.Common.{◌≡◌, ◌≤◌, length, take, sym, ap, ◌�
 use lib.Seq.{take-length}
 use Rattle.laws.specs.Coefficients.{trim}
 use Rattle.laws.proofs.Coefficients.{trim_end, trim_end_zero}
-use Rattle.words.proofs.Bits.{bits_zero}
+use Rattle.numbers.proofs.Bits.{bits_zero}
 use borrow.Author.Rules.{sfits_of}
 use Rattle.numbers.proofs.coefficients.trimmed_length.Statement.{statement}
 use Rattle.numbers.proofs.coefficients.trimmed_length.Tie as tie

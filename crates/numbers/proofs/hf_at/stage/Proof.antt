@@ -1,6 +1,6 @@
 use Rattle.std.proofs.Common.{◌≡◌, ℕ, suc, ◌-◌, ◌*◌, ◌<◌, ◌≤◌, length, refl, ◌∙◌, le_trans, le_refl, add-one}
 use Rattle.laws.specs.Sums.{sum_below}
-use Rattle.words.specs.Wide.{value}
+use Rattle.numbers.specs.Wide.{value}
 use Rattle.numbers.specs.HilbertParts.{number_at, kept}
 use Rattle.numbers.proofs.KeptSums.{total_more}
 use Rattle.numbers.proofs.Numbers.{number_in, put_more, put_rest}

@@ -1,6 +1,6 @@
 use Rattle.std.proofs.Common.{◌≡◌, ◌-◌, ◌≤◌, ◌++◌, length, drop, replicate, arith, length-set, rules}
 use borrow.Author.Fill.{fill_more}
-use Rattle.passes.proofs.Rows.{filled}
+use Rattle.laws.proofs.Rows.{filled}
 use Rattle.numbers.proofs.hf_at.wipe.Statement.{statement}
 use Rattle.numbers.proofs.hf_at.wipe.Tie as tie
 

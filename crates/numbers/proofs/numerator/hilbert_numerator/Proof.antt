@@ -1,6 +1,6 @@
 use Rattle.std.proofs.Common.{false, [], length, take, sym, refl, ◌∙◌, add-zero, arith, length-take-le, rules}
 use lib.Seq.{length_front}
-use Rattle.passes.proofs.Sizes.{enough}
+use Rattle.laws.proofs.Asked.{enough}
 use Rattle.numbers.proofs.NumeratorCall.{gives, is_cells, is_coefficients, refuses}
 use Rattle.numbers.proofs.RoomsCall.{asked_is}
 use Rattle.numbers.specs.declared.numerator.LengthOutcome.{LengthOutcome}
@@ -31,11 +31,11 @@ hilbert_numerator_spec =
     (λ c κs. tt)
     -- same-length
     (λ c. let p4 = c.before.before.before.before in let p9 = p4.before.before.before.before.before in let p15 = p9.before.before.before.before.before in length_front p15.args.room.now p4.numerator_in.new.1.1.1.0 p9.rooms.given.0.0.cells p4.numerator_in.auto.1.1.1.0)
-    -- same_length_2
+    -- same-length-2
     (λ c. let p4 = c.before.before.before.before in let p9 = p4.before.before.before.before.before in let p15 = p9.before.before.before.before.before in length_front p15.args.first.now p4.numerator_in.new.1.1.1.1.0 p9.rooms.given.0.0.coefficients p4.numerator_in.auto.1.1.1.1.0)
     -- same-length-3
     (λ c. let p4 = c.before.before.before.before in let p9 = p4.before.before.before.before.before in let p15 = p9.before.before.before.before.before in length_front p15.args.second.now p4.numerator_in.new.1.1.1.1.1.0 p9.rooms.given.0.0.coefficients p4.numerator_in.auto.1.1.1.1.1.0)
     -- returns
     (λ c. let p4 = c.before.before.before.before in let p9 = p4.before.before.before.before.before in let p11 = p9.before.before in let p15 = p11.before.before.before in let h = asked_is p15.args.n p15.args.s p15.args.cells.now 0 [] false 0 (length p15.args.room.now) (length p15.args.first.now) (length p15.args.second.now) p11.checked_list.result p9.rooms.given.0.0 p11.checked_list.ensures p9.rooms.given.1 in let v = p4.numerator_in in let d = v.ensures in gives p15.args.n p15.args.s p15.args.cells.now p15.args.room.now p15.args.first.now p15.args.second.now p9.rooms.given.0.0 h (length (take p9.rooms.given.0.0.cells p15.args.room.now)) (length (take p9.rooms.given.0.0.coefficients p15.args.first.now)) (length (take p9.rooms.given.0.0.coefficients p15.args.second.now)) v.result (record { outcome = LengthOutcome.Value v.result }) v.new.1.1.1.0 v.new.1.1.1.1.0 v.new.1.1.1.1.1.0 (length-take-le p9.rooms.given.0.0.cells p15.args.room.now h.room_lent) (length-take-le p9.rooms.given.0.0.coefficients p15.args.first.now h.first_lent) (length-take-le p9.rooms.given.0.0.coefficients p15.args.second.now h.second_lent) refl d.0 d.1.0 d.1.1)
-    -- returns_2
+    -- returns-2
     (λ c. let p2 = c.before.before in let p4 = p2.before.before in let p8 = p4.before.before.before in refuses p8.args.n p8.args.s p8.args.cells.now p8.args.room.now p8.args.first.now p8.args.second.now p4.checked_list.result p2.rooms2.given.0.0 c.refused.result p4.checked_list.ensures p2.rooms2.given.1 c.refused.ensures))

@@ -1,13 +1,13 @@
 use Rattle.std.proofs.Common.{◌≡◌, ℕ, ◌-◌, ◌*◌, ◌<◌, ◌≤◌, ◌≢◌, length, get_or, refl, le_trans, add-one, arith, rules, below_more}
 use Rattle.laws.specs.Sums.{product_below, sum_below}
-use Rattle.words.specs.Wide.{product_outcome}
+use Rattle.numbers.specs.Wide.{product_answer}
 use Rattle.numbers.proofs.LeastPowers.{bound_missing, bound_large, bound_passed, bound_exact}
 use Rattle.numbers.proofs.Steps.{loop_ended, next_fits, next_less, next_within, none_below, place_bytes_lem, zero_least}
 use Rattle.numbers.proofs.powers.bound_of.Statement.{statement}
 use Rattle.numbers.proofs.powers.bound_of.Tie as tie
 
 abbrev invariant-loop : tie.invariant-loop
-invariant-loop n powers d₀ product₀ v₀ d product v = (v ≤ n) × (n ≤ length powers) × (n ≤ 65536) × (d ≤ 65535 * v) × (d ≡ sum_below v (λ j. get_or powers j 0 - 1)) × ((j : ℕ) → j < v → get_or powers j 0 ≢ 0) × (product ≡ product_outcome (product_below v (λ j. get_or powers j 0)))
+invariant-loop n powers d₀ product₀ v₀ d product v = (v ≤ n) × (n ≤ length powers) × (n ≤ 65536) × (d ≤ 65535 * v) × (d ≡ sum_below v (λ j. get_or powers j 0 - 1)) × ((j : ℕ) → j < v → get_or powers j 0 ≢ 0) × (product ≡ product_answer (product_below v (λ j. get_or powers j 0)))
 
 abbrev decreases-loop : tie.decreases-loop
 decreases-loop n powers d₀ product₀ v₀ d product v = n - v
@@ -25,7 +25,7 @@ bound_of_spec =
     -- shared-slice-read-x
     (λ c. le_trans c.before.loop-test.true c.before.before.loop.invariant.1)
     -- returns
-    (λ c. let t = c.before.before in let l = t.before.loop in let a = t.before.before.before.args in bound_missing a.n a.powers.now l.v t.loop-test.true c.if1.true)
+    (λ c. let t = c.before.before in let l = t.before.loop in let a = t.before.before.before.args in bound_missing 65536 a.n a.powers.now l.v t.loop-test.true c.if1.true)
     (λ c. search rules)
     (λ c. omega (arith, c.before.shared-slice-known2.given c.before.before.before.loop.v))
     (λ c. omega (arith, c.before.shared-slice-known2.given c.before.before.before.loop.v))
@@ -43,14 +43,14 @@ bound_of_spec =
     (λ c. let p = c.before.before in
     let a = p.before.before.args in
     let e : p.loop.v ≡ a.n = loop_ended p.loop.v a.n p.loop.invariant.0 c.before.loop-test.false in
-    bound_large a.n a.powers.now p.loop.d (rw e at p.loop.invariant.4) (rw e at p.loop.invariant.5) c.if2.true)
+    bound_large 65536 a.n a.powers.now p.loop.d (rw e at p.loop.invariant.4) (rw e at p.loop.invariant.5) c.if2.true)
     (λ c. search rules)
     (λ c. search rules)
     (λ c. let p = c.before.before.before.before in
     let a = p.before.before.args in
     let e : p.loop.v ≡ a.n = loop_ended p.loop.v a.n p.loop.invariant.0 c.before.before.before.loop-test.false in
-    bound_passed a.n a.powers.now p.loop.d (rw e at p.loop.invariant.4) (rw e at p.loop.invariant.5) c.before.before.if2.false p.loop.product (rw e at p.loop.invariant.6) c.enum-told2.given.1)
+    bound_passed 65536 a.n a.powers.now p.loop.d (rw e at p.loop.invariant.4) (rw e at p.loop.invariant.5) c.before.before.if2.false p.loop.product (rw e at p.loop.invariant.6) c.enum-told2.given.1)
     (λ c. let p = c.before.before.before.before in
     let a = p.before.before.args in
     let e : p.loop.v ≡ a.n = loop_ended p.loop.v a.n p.loop.invariant.0 c.before.before.before.loop-test.false in
-    bound_exact a.n a.powers.now p.loop.d (rw e at p.loop.invariant.4) (rw e at p.loop.invariant.5) c.before.before.if2.false p.loop.product (rw e at p.loop.invariant.6) c.enum_told.given.0.0 c.enum_told.given.1))
+    bound_exact 65536 a.n a.powers.now p.loop.d (rw e at p.loop.invariant.4) (rw e at p.loop.invariant.5) c.before.before.if2.false p.loop.product (rw e at p.loop.invariant.6) c.enum_told.given.0.0 c.enum_told.given.1))

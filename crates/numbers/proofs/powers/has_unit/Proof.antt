@@ -32,5 +32,5 @@ has_unit_spec =
     (λ c. let p3 = c.before.before.before in let p4 = p3.before in let p6 = p4.before.before in next_less p4.loop.i p6.args.s p3.loop-test.true)
     -- loop-again
     (λ c. let p1 = c.before in let p2 = p1.before in let p3 = p2.before in let p4 = p3.before in let p6 = p4.before.before in unit_next p6.args.n p6.args.s p6.args.cells.now p6.requires p4.loop.i p2.row.result.now p3.loop-test.true p2.row.ensures p1.degree.result p1.degree.ensures.0 p4.loop.invariant c.if1.false)
-    -- returns_2
+    -- returns-2
     (λ c. let p1 = c.before in let p3 = p1.before.before in unit_none p3.args.n p3.args.s p3.args.cells.now p3.requires p1.loop.i c.loop-test.false p1.loop.invariant))

@@ -1,21 +1,17 @@
 use Rattle.std.proofs.Common.{◌≡◌, ℕ, ◌+◌, ◌-◌, ◌≤◌, List, length, sym, refl, ap, ◌∙◌, subst, le_trans, le_of_eq}
+use Rattle.laws.proofs.Added.{AddedTo, Zeros}
+use Rattle.laws.proofs.Asked.{both, both_within}
+use Rattle.laws.proofs.Grown.{grown, grown_more, grown_none, listed_next, taken, taken_added}
+use Rattle.laws.proofs.Room.{room_one, room_square}
+use Rattle.laws.proofs.Rows.{at, at_length, row_end}
 use Rattle.laws.specs.Ideal.{listed}
-use Rattle.laws.specs.Seeded.{growth}
-use Rattle.laws.proofs.Ideal.{listed_last, row_end}
-use Rattle.passes.specs.Added.{AddedTo, Zeros}
-use Rattle.passes.specs.Rows.{at}
-use Rattle.passes.specs.Sizes.{both}
-use Rattle.passes.proofs.Grown.{growth_more, growth_none, taken, taken_added}
-use Rattle.passes.proofs.Room.{room_one, room_square}
-use Rattle.passes.proofs.Rows.{at_length}
-use Rattle.passes.proofs.Sizes.{both_within}
 use Rattle.numbers.proofs.Steps.{at_within, loop_ended, next_fits, next_less, next_within, row_start, zero_least}
 use Rattle.numbers.proofs.ToLaws.{count_below, sum_within}
 use Rattle.numbers.proofs.update.add_each.Statement.{statement}
 use Rattle.numbers.proofs.update.add_each.Tie as tie
 
 abbrev invariant-loop : tie.invariant-loop
-invariant-loop n s xs t ys room₀ first₀ second₀ minus i₀ room first second i = (i ≤ t) × (length room ≡ length room₀) × (length second ≡ length second₀) × Zeros second × AddedTo (growth (listed n s xs) (listed n i ys)) first₀ first
+invariant-loop n s xs t ys room₀ first₀ second₀ minus i₀ room first second i = (i ≤ t) × (length room ≡ length room₀) × (length second ≡ length second₀) × Zeros second × AddedTo (grown (listed n s xs) (listed n i ys)) first₀ first
 
 abbrev decreases-loop : tie.decreases-loop
 decreases-loop n s xs t ys room₀ first₀ second₀ minus i₀ room first second i = t - i
@@ -27,7 +23,7 @@ add_each_spec =
     invariant-loop
     decreases-loop
     -- loop-holds
-    (λ c. let p3 = c.before.before.before in (zero_least p3.args.t, refl, refl, p3.requires.1.1, growth_none (listed p3.args.n p3.args.s p3.args.xs.now) p3.args.first.now))
+    (λ c. let p3 = c.before.before.before in (zero_least p3.args.t, refl, refl, p3.requires.1.1, grown_none (listed p3.args.n p3.args.s p3.args.xs.now) p3.args.first.now))
     -- row-requires
     (λ c κs. let p1 = c.before in let p5 = p1.before.before.before.before in le_trans (row_end p5.args.n p5.args.t p1.loop.i c.loop-test.true) p5.requires.0.1)
     -- quotients-requires
@@ -43,12 +39,12 @@ add_each_spec =
     -- loop-less
     (λ c. let p15 = c.before.before.before.before.before.before.before.before.before.before.before.before.before.before.before in let p16 = p15.before in let p20 = p16.before.before.before.before in next_less p16.loop.i p20.args.t p15.loop-test.true)
     -- loop-again
-    (λ c. let p4 = c.before.before.before.before in let p8 = p4.before.before.before.before in let p12 = p8.before.before.before.before in let p14 = p12.before.before in let p15 = p14.before in let p16 = p15.before in let p20 = p16.before.before.before.before in let a = p20.args in let i = p16.loop.i in let d = p4.add_numerator.ensures in let L = listed a.n a.s a.xs.now in let new = p4.add_numerator.new.1.1.1.1.1.1.0 in (next_within i a.t p15.loop-test.true, p4.add_numerator.auto.0 ∙ p12.quotients.auto.0 ∙ p16.loop.invariant.1, d.1.0 ∙ p16.loop.invariant.2, d.1.1, growth_more L (listed a.n i a.ys.now) (listed a.n (i + 1) a.ys.now) (at a.n i a.ys.now) a.first.now p16.loop.first new (listed_last a.n i a.ys.now) p16.loop.invariant.4 (subst (λ (g : List ℕ). AddedTo (taken (both a.n a.s a.xs.now i a.ys.now) g) p16.loop.first new) p14.row.ensures (taken_added a.n p12.quotients.result p8.degree.result (both a.n a.s a.xs.now i a.ys.now) p14.row.result.now p16.loop.room p12.quotients.new.0 p16.loop.first new (both_within a.n a.s a.xs.now i a.ys.now) p8.degree.ensures.0 p12.quotients.ensures.1 d.0))))
+    (λ c. let p4 = c.before.before.before.before in let p8 = p4.before.before.before.before in let p12 = p8.before.before.before.before in let p14 = p12.before.before in let p15 = p14.before in let p16 = p15.before in let p20 = p16.before.before.before.before in let a = p20.args in let i = p16.loop.i in let d = p4.add_numerator.ensures in let L = listed a.n a.s a.xs.now in let new = p4.add_numerator.new.1.1.1.1.1.1.0 in (next_within i a.t p15.loop-test.true, p4.add_numerator.auto.0 ∙ p12.quotients.auto.0 ∙ p16.loop.invariant.1, d.1.0 ∙ p16.loop.invariant.2, d.1.1, grown_more L (listed a.n i a.ys.now) (listed a.n (i + 1) a.ys.now) (at a.n i a.ys.now) a.first.now p16.loop.first new (listed_next a.n i a.ys.now) p16.loop.invariant.4 (subst (λ (g : List ℕ). AddedTo (taken (both a.n a.s a.xs.now i a.ys.now) g) p16.loop.first new) p14.row.ensures (taken_added a.n p12.quotients.result p8.degree.result (both a.n a.s a.xs.now i a.ys.now) p14.row.result.now p16.loop.room p12.quotients.new.0 p16.loop.first new (both_within a.n a.s a.xs.now i a.ys.now) p8.degree.ensures.0 p12.quotients.ensures.1 d.0))))
     -- same-length
     (λ c. let p1 = c.before in p1.loop.invariant.1)
-    -- same_length_2
+    -- same-length-2
     (λ c. let p1 = c.before in p1.loop.invariant.4.len)
     -- same-length-3
     (λ c. let p1 = c.before in p1.loop.invariant.2)
     -- returns
-    (λ c. let p1 = c.before in let p5 = p1.before.before.before.before in (subst (λ (k : ℕ). AddedTo (growth (listed p5.args.n p5.args.s p5.args.xs.now) (listed p5.args.n k p5.args.ys.now)) p5.args.first.now p1.loop.first) (loop_ended p1.loop.i p5.args.t p1.loop.invariant.0 c.loop-test.false) p1.loop.invariant.4, (p1.loop.invariant.2, p1.loop.invariant.3))))
+    (λ c. let p1 = c.before in let p5 = p1.before.before.before.before in (subst (λ (k : ℕ). AddedTo (grown (listed p5.args.n p5.args.s p5.args.xs.now) (listed p5.args.n k p5.args.ys.now)) p5.args.first.now p1.loop.first) (loop_ended p1.loop.i p5.args.t p1.loop.invariant.0 c.loop-test.false) p1.loop.invariant.4, (p1.loop.invariant.2, p1.loop.invariant.3))))

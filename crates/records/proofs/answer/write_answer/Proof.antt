@@ -14,8 +14,8 @@ write_answer_spec =
     (λ c κs. search rules)
     (λ c κs. search rules)
     (λ c. search rules)
-    -- returns_2
+    -- returns-2
     (λ c. simp (le-ltb _ _ c.before.before.before.before.before.if1.false, eq-eqb _ _ c.before.before.before.before.if2.true) (refl, c.before.before.put_answer.ensures))
     (λ c. search rules)
-    -- returns_3
+    -- returns-3
     (λ c. simp (le-ltb _ _ c.before.before.before.before.before.if1.false, ne_eqb _ _ c.before.before.before.before.if2.false) (refl, c.before.before.put-answer2.ensures)))

@@ -22,5 +22,5 @@ insert_row_spec =
     (λ c κs. search rules)
     (λ c. search rules)
     (λ c. search rules)
-    -- returns_2
+    -- returns-2
     (λ c. let a = c.before.before.before.before.before.before.before.before.before.before.before.args in let d = take (a.m + 1) c.before.before.insert_place.new.0 in let p = c.before.before.before.before.before.before.before.seat.result in (inserted a.n a.s a.m p a.i a.cells.now a.places.now d c.before.before.before.before.before.before.before.seat.ensures.1 c.before.before.insert_place.ensures c.before.before.before.before.before.before.before.seat.ensures.0 (sym c.before.before.before.before.before.is_there.ensures ∙ c.before.before.before.before.if1.false), omega arith, inserted_below a.n a.s a.m p a.i a.cells.now a.places.now d c.before.before.before.before.before.before.before.seat.ensures.1 c.before.before.insert_place.ensures c.before.before.before.before.before.before.before.before.before.before.before.requires.1.3 c.before.before.before.before.before.before.before.before.before.before.before.requires.1.2)))

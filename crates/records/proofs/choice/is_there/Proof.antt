@@ -22,9 +22,9 @@ is_there_spec =
     (λ c. search rules)
     (λ c. search rules)
     (λ c. search rules)
-    -- returns_2
+    -- returns-2
     (λ c. let a = c.before.before.before.before.before.before.before.args in let cells = a.cells.now in let k = get_or a.places.now a.p 0 in rw (rows_at_next a.n cells a.m a.p a.places.now c.before.before.before.before.if1.false c.before.before.before.before.before.before.before.requires.1.1, ordered (degrevlex (row a.n cells a.i) (row a.n cells k)) c.before.before.compare_rows.result Less c.before.before.compare_rows.ensures c.enum_told.given.1))
-    -- returns_3
+    -- returns-3
     (λ c. let a = c.before.before.before.before.before.before.before.args in let cells = a.cells.now in let k = get_or a.places.now a.p 0 in rw (rows_at_next a.n cells a.m a.p a.places.now c.before.before.before.before.if1.false c.before.before.before.before.before.before.before.requires.1.1, ordered (degrevlex (row a.n cells a.i) (row a.n cells k)) c.before.before.compare_rows.result Equal c.before.before.compare_rows.ensures c.enum-told2.given.1))
-    -- returns_4
+    -- returns-4
     (λ c. let a = c.before.before.before.before.before.before.before.args in let cells = a.cells.now in let k = get_or a.places.now a.p 0 in rw (rows_at_next a.n cells a.m a.p a.places.now c.before.before.before.before.if1.false c.before.before.before.before.before.before.before.requires.1.1, ordered (degrevlex (row a.n cells a.i) (row a.n cells k)) c.before.before.compare_rows.result Greater c.before.before.compare_rows.ensures c.enum-told3.given.1)))

@@ -37,5 +37,5 @@ seat_spec =
     (λ c. search rules)
     -- loop-again
     (λ c. let a = c.before.before.before.before.before.before.before.before.args in let l = c.before.before.before.before.before.loop in let x = row a.n a.cells.now a.i in let k = row a.n a.cells.now (get_or a.places.now l.p 0) in let K = rows_at a.n a.cells.now (take a.m a.places.now) in (omega arith, l.invariant.1 ∙ seat_more x K (drop (l.p + 1) K) k l.p (rows_at_next a.n a.cells.now a.m l.p a.places.now c.before.before.before.before.loop-test.true c.before.before.before.before.before.before.before.before.requires.1.1) (sym (less_is_lem (degrevlex x k) c.before.before.compare_rows.result c.before.before.compare_rows.ensures) ∙ sym c.before.is_less.ensures ∙ not-false c.before.is_less.result c.if1.false)))
-    -- returns_2
+    -- returns-2
     (λ c. let a = c.before.before.before.before.args in let l = c.before.loop in (sym (l.invariant.1 ∙ rw (rows_at_end a.n a.cells.now a.m l.p a.places.now c.loop-test.false) (omega arith)), l.invariant.0)))

@@ -14,5 +14,5 @@ as_told_spec =
     (λ c κs. tt)
     -- returns
     (λ c. ap told_as (sym c.before.before.outcome.given.1))
-    -- returns_2
+    -- returns-2
     (λ c. c.refused.ensures ∙ ap told_as (sym c.before.before.outcome2.given.1)))

@@ -2,7 +2,6 @@
 use lib.Dec.{lit≤}
 use Rattle.records.proofs.HostCall.{own_rooms}
 use borrow.Author.Rules.{rules}
-use Rattle.monomials.specs.Limits.{max_width, max_count}
 use Rattle.records.proofs.host.in_own_rooms.Statement.{statement}
 use Rattle.records.proofs.host.in_own_rooms.Tie as tie
 
@@ -16,6 +15,6 @@ in_own_rooms_spec =
     (λ c. search rules)
     (λ c. search rules)
     (λ c κs. search rules)
-    -- returns_2
-    (λ c. let p2 = c.before.before in let p5 = p2.before.before.before in own_rooms 256 16 32 (lit≤ tt) (lit≤ tt) (lit≤ tt) p5.args.n p5.args.m p5.args.cells.now p2.in_tiny_rooms.result p2.in_tiny_rooms.ensures c.enum_told.given.1)
+    -- returns-2
+    (λ c. let p2 = c.before.before in let p5 = p2.before.before.before in own_rooms 256 16 32 (lit≤ tt) (lit≤ tt) (lit≤ tt) 255 60 65536 p5.args.n p5.args.m p5.args.cells.now p2.in_tiny_rooms.result p2.in_tiny_rooms.ensures c.enum_told.given.1)
     (λ c. search rules))

@@ -15,4 +15,4 @@ purlthicket_dim_spec =
     (λ c κs. tt)
     (λ c. search rules)
     -- returns
-    (λ c. let p = c.before.before.before in let a = p.before.before.before.before in (c.status.ensures ∙ status_is (refusal (host_checks a.args.rec.now a.args.out.now)) p.answer_record.result p.answer_record.ensures.0, p.answer_record.ensures.1)))
+    (λ c. let p = c.before.before.before in let a = p.before.before.before.before in (c.status.ensures ∙ status_is (refusal (host_checks 255 60 65536 26 a.args.rec.now a.args.out.now)) p.answer_record.result p.answer_record.ensures.0, p.answer_record.ensures.1)))

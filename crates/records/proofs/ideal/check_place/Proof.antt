@@ -4,7 +4,6 @@ use mathlib.Core.Path.{sym, ◌∙◌}
 use mathlib.Core.Option.{none, some}
 use borrow.Author.Tests.{not-true, not-false}
 use Rattle.laws.proofs.Reading.{bytes_by, record_tests}
-use Rattle.monomials.specs.Limits.{max_count}
 use Rattle.monomials.specs.declared.refusal.Refusal.TheVariants.{Place, Record}
 use Rattle.records.proofs.Answers.{place_none, place_past, place_there, place_told_lem}
 use borrow.Author.Rules.{rules}
@@ -17,11 +16,11 @@ check_place_spec =
     (tie.spec
     (λ c κs. search rules)
     -- returns
-    (λ c. let a = c.before.before.before.args in place_told_lem a.rec.now a.k (some Record) (place_none a.rec.now a.k (sym c.before.is_record.ensures ∙ not-true c.before.is_record.result c.if1.true)))
+    (λ c. let a = c.before.before.before.args in place_told_lem 60 a.rec.now a.k (some Record) (place_none 60 a.rec.now a.k (sym c.before.is_record.ensures ∙ not-true c.before.is_record.result c.if1.true)))
     -- shared-slice-read-wide
-    (λ c. let t = (record_tests max_count c.before.before.before.before.args.rec.now (bytes_by c.before.before.before.before.args.rec.now (λ i l. omega (arith, c.before.before.before.shared-slice-known.given i)))).0 (sym c.before.before.is_record.ensures ∙ not-false c.before.before.is_record.result c.before.if1.false) in omega (arith, t.total))
+    (λ c. let t = (record_tests 60 c.before.before.before.before.args.rec.now (bytes_by c.before.before.before.before.args.rec.now (λ i l. omega (arith, c.before.before.before.shared-slice-known.given i)))).0 (sym c.before.before.is_record.ensures ∙ not-false c.before.before.is_record.result c.before.if1.false) in omega (arith, t.total))
     (λ c κs. search rules)
-    -- returns_2
-    (λ c. let a = c.before.before.before.before.before.before.args in place_told_lem a.rec.now a.k (some Place) (place_past a.rec.now a.k (sym c.before.before.before.before.is_record.ensures ∙ not-false c.before.before.before.before.is_record.result c.before.before.before.if1.false) (rw c.before.wide.ensures.0 at c.if2.true)))
-    -- returns_3
-    (λ c. let a = c.before.before.before.before.before.before.args in place_told_lem a.rec.now a.k none (place_there a.rec.now a.k (sym c.before.before.before.before.is_record.ensures ∙ not-false c.before.before.before.before.is_record.result c.before.before.before.if1.false) (rw c.before.wide.ensures.0 at c.if2.false))))
+    -- returns-2
+    (λ c. let a = c.before.before.before.before.before.before.args in place_told_lem 60 a.rec.now a.k (some Place) (place_past 60 a.rec.now a.k (sym c.before.before.before.before.is_record.ensures ∙ not-false c.before.before.before.before.is_record.result c.before.before.before.if1.false) (rw c.before.wide.ensures.0 at c.if2.true)))
+    -- returns-3
+    (λ c. let a = c.before.before.before.before.before.before.args in place_told_lem 60 a.rec.now a.k none (place_there 60 a.rec.now a.k (sym c.before.before.before.before.is_record.ensures ∙ not-false c.before.before.before.before.is_record.result c.before.before.before.if1.false) (rw c.before.wide.ensures.0 at c.if2.false))))

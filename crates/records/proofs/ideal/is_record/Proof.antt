@@ -16,7 +16,7 @@ is_record_spec =
     (tie.spec
     (λ c κs. search rules)
     -- returns
-    (λ c. let p1 = c.before in let p2 = p1.before in let rec = p2.before.args.rec.now in record_header_falls rec (bytes_by rec (λ i l. omega (arith, p2.shared-slice-known.given i))) (sym p1.header_stands.ensures ∙ not-true p1.header_stands.result c.if1.true))
+    (λ c. let p1 = c.before in let p2 = p1.before in let rec = p2.before.args.rec.now in record_header_falls 60 rec (bytes_by rec (λ i l. omega (arith, p2.shared-slice-known.given i))) (sym p1.header_stands.ensures ∙ not-true p1.header_stands.result c.if1.true))
     (λ c. search rules)
     -- list-stands-requires
     (λ c κs. let p1 = c.before in let p2 = p1.before in let p3 = p2.before in (sym p3.header_stands.ensures ∙ not-false p3.header_stands.result p2.if1.false, inr p1.if2.true))

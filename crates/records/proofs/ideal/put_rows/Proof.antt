@@ -6,9 +6,8 @@ use native.Mathlib.Nat.{zero-mul}
 use lib.ListN.{length, get_or, take}
 use lib.Seq.{sets}
 use Rattle.laws.specs.Record.{exponent_bytes}
-use Rattle.laws.proofs.Ideal.{row_end}
 use Rattle.records.specs.Rows.{rows_at}
-use Rattle.records.proofs.Cells.{next_rows, row_within, row_length, part_row}
+use Rattle.records.proofs.Cells.{row_end, next_rows, row_within, row_length, part_row}
 use Rattle.records.proofs.Choosing.{place_below, spread_next}
 use borrow.Author.Rules.{rules}
 use Rattle.records.proofs.ideal.put_rows.Statement.{statement}

@@ -21,9 +21,9 @@ above_next_spec =
     (λ c. search rules)
     (λ c. search rules)
     (λ c. search rules)
-    -- returns_2
+    -- returns-2
     (λ c. let a = c.before.before.before.before.before.args in let cells = a.cells.now in rw (listed_next a.n a.m (a.i + 1) cells c.before.before.before.if1.false, ordered (degrevlex (row a.n cells a.i) (row a.n cells (a.i + 1))) c.before.before.compare_rows.result Less c.before.before.compare_rows.ensures c.enum_told.given.1))
-    -- returns_3
+    -- returns-3
     (λ c. let a = c.before.before.before.before.before.args in let cells = a.cells.now in rw (listed_next a.n a.m (a.i + 1) cells c.before.before.before.if1.false, ordered (degrevlex (row a.n cells a.i) (row a.n cells (a.i + 1))) c.before.before.compare_rows.result Equal c.before.before.compare_rows.ensures c.enum-told2.given.1))
-    -- returns_4
+    -- returns-4
     (λ c. let a = c.before.before.before.before.before.args in let cells = a.cells.now in rw (listed_next a.n a.m (a.i + 1) cells c.before.before.before.if1.false, ordered (degrevlex (row a.n cells a.i) (row a.n cells (a.i + 1))) c.before.before.compare_rows.result Greater c.before.before.compare_rows.ensures c.enum-told3.given.1)))

@@ -33,5 +33,5 @@ divided_later_spec =
     (λ c. search rules)
     -- loop-again
     (λ c. let a = c.before.before.before.before.before.args in let l = c.before.before.before.loop in (omega arith, omega arith, l.invariant.2 ∙ rw (listed_next a.n a.m l.j a.cells.now c.before.before.loop-test.true, ← c.before.row_divides.ensures, c.if1.false)))
-    -- returns_2
+    -- returns-2
     (λ c. let a = c.before.before.before.args in let l = c.before.loop in rw (l.invariant.2, listed_end a.n a.m l.j a.cells.now c.loop-test.false)))

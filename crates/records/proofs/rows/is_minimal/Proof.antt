@@ -33,5 +33,5 @@ is_minimal_spec =
     (λ c. search rules)
     -- loop-again
     (λ c. let a = c.before.before.before.before.before.args in let l = c.before.before.before.loop in (omega arith, l.invariant.1 ∙ minimal_pass a.n a.s l.j a.cells.now (row a.n a.cells.now a.i) c.before.before.loop-test.true (sym c.before.properly_divides.ensures ∙ c.if1.false)))
-    -- returns_2
+    -- returns-2
     (λ c. let a = c.before.before.before.args in let l = c.before.loop in rw (l.invariant.1, listed_end a.n a.s l.j a.cells.now c.loop-test.false)))

@@ -11,5 +11,5 @@ properly_divides_spec =
     (λ c κs. search rules)
     -- returns
     (λ c. rw (← c.before.before.row_divides.ensures, c.before.if1.true, ← c.row-divides2.ensures))
-    -- returns_2
+    -- returns-2
     (λ c. rw (← c.before.row_divides.ensures, c.if1.false)))

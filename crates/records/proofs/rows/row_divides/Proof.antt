@@ -25,5 +25,5 @@ row_divides_spec =
     (λ c. search rules)
     -- returns
     (λ c. let a = c.before.before.before.before.before.before.before.args in let q = c.before.before.before.before.before.before.before.requires in divided a.n a.i a.j a.cells.now q.0 q.1.0 q.1.1 c.before.before.before.divides.result c.before.outcome.given.0.0 c.before.before.before.divides.ensures c.before.outcome.given.1)
-    -- returns_2
+    -- returns-2
     (λ c. let a = c.before.before.before.before.before.before.args in let q = c.before.before.before.before.before.before.requires in absurd (undivided a.n a.i a.j a.cells.now q.0 q.1.0 q.1.1 c.before.before.divides.result c.enum_told.given.0.0 c.before.before.divides.ensures c.enum_told.given.1)))

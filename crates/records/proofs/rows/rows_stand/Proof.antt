@@ -32,11 +32,11 @@ rows_stand_spec =
     (λ c. let a = c.before.before.before.before.before.args in let l = c.before.before.before.loop in sym (l.invariant.1 ∙ stands_low a.n a.m l.i a.cells.now c.before.before.loop-test.true (sym c.before.above_next.ensures ∙ not-true c.before.above_next.result c.if1.true)))
     -- divided-later-requires
     (λ c κs. (c.before.before.before.before.before.requires.0, (c.before.before.before.before.before.requires.1, c.before.before.loop-test.true)))
-    -- returns_2
+    -- returns-2
     (λ c. let a = c.before.before.before.before.before.before.before.args in let l = c.before.before.before.before.before.loop in sym (l.invariant.1 ∙ stands_divided a.n a.m l.i a.cells.now c.before.before.before.before.loop-test.true (sym c.before.before.before.above_next.ensures ∙ not-false c.before.before.before.above_next.result c.before.before.if1.false) (sym c.before.divided_later.ensures ∙ c.if2.true)))
     (λ c. search rules)
     (λ c. search rules)
     -- loop-again
     (λ c. let a = c.before.before.before.before.before.before.before.args in let l = c.before.before.before.before.before.loop in (omega arith, l.invariant.1 ∙ stands_next a.n a.m l.i a.cells.now c.before.before.before.before.loop-test.true (sym c.before.before.before.above_next.ensures ∙ not-false c.before.before.before.above_next.result c.before.before.if1.false) (sym c.before.divided_later.ensures ∙ c.if2.false)))
-    -- returns_3
+    -- returns-3
     (λ c. let a = c.before.before.before.args in let l = c.before.loop in rw (l.invariant.1, listed_end a.n a.m l.i a.cells.now c.loop-test.false)))

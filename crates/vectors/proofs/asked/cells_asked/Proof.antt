@@ -9,7 +9,7 @@ cells_asked_spec =
     (tie.spec
     -- returns
     (λ c. rw (lt-ltb _ _ c.if1.true))
-    -- returns_2
+    -- returns-2
     (λ c. rw (le-ltb _ _ c.before.if1.false, lt-ltb _ _ c.if2.true))
     (λ c κs. search rules)
     (λ c κs. search rules)
@@ -21,5 +21,5 @@ cells_asked_spec =
     let most : a.s + c.pairs.result ≤ 131070 = omega arith in
     let product = mul-le-mul few most in
     record { fits = omega arith })
-    -- returns_3
+    -- returns-3
     (λ c. rw (le-ltb _ _ c.before.before.before.if1.false, le-ltb _ _ c.before.before.if2.false, c.pairs.ensures.0, c.before.between.ensures)))

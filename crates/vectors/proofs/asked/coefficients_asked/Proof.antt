@@ -12,5 +12,5 @@ coefficients_asked_spec =
     (λ c κs. search rules)
     (λ c κs. search rules)
     (λ c. search rules)
-    -- returns_2
+    -- returns-2
     (λ c. rw (le-ltb _ _ c.before.before.if1.false) (omega (arith, c.degree_above.ensures.0 ∙ ap (λ (g : ℕ). above g c.before.before.before.before.args.cells.now) c.before.between.ensures))))

@@ -13,7 +13,7 @@ one_at_spec =
     (λ c. (rw (eq-eqb _ _ c.if1.true), omega arith))
     (λ c. search rules)
     (λ c κs. search rules)
-    -- returns_2
+    -- returns-2
     (λ c. let p1 = c.before in (rw (ne_eqb _ _ p1.before.if1.false, sym p1.Stands-from.ensures ∙ c.if2.true), omega arith))
-    -- returns_3
+    -- returns-3
     (λ c. let p1 = c.before in (rw (ne_eqb _ _ p1.before.if1.false, sym p1.Stands-from.ensures ∙ c.if2.false), omega arith)))

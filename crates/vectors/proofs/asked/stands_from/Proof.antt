@@ -36,7 +36,7 @@ stands_from_spec =
     let p3 = c.before.before.before in
     let a = p3.before.args in
     (omega arith, sym (held_later a.gap a.cells.now p3.loop.j a.x (omega arith) c.if1.false) ∙ p3.loop.invariant.1))
-    -- returns_2
+    -- returns-2
     (λ c.
     let p1 = c.before in
     let a = p1.before.args in

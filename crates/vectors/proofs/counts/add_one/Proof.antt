@@ -15,7 +15,7 @@ add_one_spec =
     (λ c. search rules)
     -- returns
     (λ c. rw c.wrapping-add-u64.ensures)
-    -- returns_2
+    -- returns-2
     (λ c.
     let p2 = c.before.before in
     sym (set_out p2.args.counts.now p2.args.code _ (omega arith))))

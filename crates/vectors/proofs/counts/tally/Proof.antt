@@ -19,7 +19,7 @@ tally_spec =
     let right = p7.before.before.before.args.right in
     rw (not-true right p4.if1.true) (p2.add-one2.ensures ∙ ap (one_more 0) p7.add_one.ensures))
     (λ c. search rules)
-    -- returns_2
+    -- returns-2
     (λ c.
     let p3 = c.before.before.before in
     let right = p3.before.before.before.args.right in

@@ -10,5 +10,5 @@ bits_of_spec =
     (λ c κs. search rules)
     -- returns
     (λ c. rw c.before.if1.true (bits_negative c.wrapping-sub-u64.result c.before.before.args.x.magnitude (omega arith) (omega arith) c.wrapping-sub-u64.ensures))
-    -- returns_2
+    -- returns-2
     (λ c. rw c.if1.false))

@@ -9,5 +9,5 @@ left_spec =
     -- returns
     (λ c. rw (lt-ltb _ _ c.if1.true))
     (λ c. search rules)
-    -- returns_2
+    -- returns-2
     (λ c. rw (le-ltb _ _ c.if1.false)))

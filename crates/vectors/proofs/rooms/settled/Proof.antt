@@ -8,5 +8,5 @@ settled_spec =
     (tie.spec
     -- returns
     (λ c. (rw c.if1.true, refl))
-    -- returns_2
+    -- returns-2
     (λ c. (rw c.if1.false, refl)))

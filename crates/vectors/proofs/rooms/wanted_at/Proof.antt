@@ -20,7 +20,7 @@ wanted_at_spec =
     (c.left.ensures ∙ sym (wanted_left s k j (omega arith)), p4.requires ∙ sym (place_same s k j (omega arith))))
     (λ c κs. search rules)
     (λ c κs. search rules)
-    -- returns_2
+    -- returns-2
     (λ c.
     let p1 = c.before in
     let p5 = p1.before.before.before.before in

@@ -17,7 +17,7 @@ is_answer_spec =
     let t = p2.is_told.result in
     let e : c.is_line_end.result ≡ (t.right && line_ended s t.next) = rw c.before.if1.true c.is_line_end.ensures in
     e ∙ ap (λ (x : Compared). x.right && line_ended s x.next) p2.is_told.ensures)
-    -- returns_2
+    -- returns-2
     (λ c.
     let p1 = c.before in
     let s = p1.before.before.args.text.now in

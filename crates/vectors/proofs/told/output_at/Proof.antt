@@ -9,5 +9,5 @@ output_at_spec =
     (λ c κs. search rules)
     -- returns
     (λ c. rw (eq-eqb _ _ c.before.if1.true) c.list_at.ensures)
-    -- returns_2
+    -- returns-2
     (λ c. rw (ne_eqb _ _ c.if1.false)))

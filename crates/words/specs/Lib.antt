@@ -1,2 +1,0 @@
--- What the contracts of words and two-word numbers cite.
-pub mod Wide

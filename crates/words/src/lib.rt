@@ -1,3 +1,0 @@
-// Below the layers: signed words, and numbers of two words.
-pub mod signed;
-pub mod wide;
