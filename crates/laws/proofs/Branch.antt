@@ -2,11 +2,11 @@
 --   Summed n m v e xs i k ys   == k of the first i monomials were copied behind the m monomials of xs; with x_v^e they have the multiples of x_v^e
 --                                 and those i
 --   Branched n m v e xs r ys   == behind the m monomials of xs lie r, fewer, which have the multiples of x_v^e and those m
-use mathlib.Core.Path.{◌≡◌, refl, sym, ap, ap₂, ◌∙◌}
-use mathlib.Core.Logic.{inl, inr}
+use mathlib.Core.Path.{◌≡◌, refl, sym, ap, ◌∙◌}
+use mathlib.Core.Logic.{inl}
 use mathlib.Core.Bool.{Bool, true, false, ◌||◌, false≢true}
-use mathlib.Core.List.{List, [], ◌∷◌}
-use Prim.Native.Nat.{ℕ, zero, suc, ◌+◌, ◌*◌, ◌-◌, ◌≤◌, ◌<◌}
+use mathlib.Core.List.{List, ◌∷◌}
+use Prim.Native.Nat.{ℕ, suc, ◌+◌, ◌*◌, ◌-◌, ◌≤◌, ◌<◌}
 use native.Mathlib.Omega.{arith}
 use native.Mathlib.Nat.{suc-mul}
 use lib.Dec.{ltb}

@@ -8,14 +8,14 @@
 use mathlib.Core.Path.{◌≡◌, refl, sym, ap, ap₂, ◌∙◌}
 use mathlib.Core.Logic.{inl}
 use mathlib.Core.Bool.{Bool, true, false, not, ◌&&◌, ◌||◌}
-use mathlib.Core.List.{List, [], ◌∷◌, ◌++◌, map}
+use mathlib.Core.List.{List, [], ◌∷◌, map}
 use Prim.Native.Nat.{ℕ, zero, suc, ◌+◌, ◌≤◌, ◌<◌}
 use native.Mathlib.Omega.{arith}
 use lib.ListN.{length}
 use lib.IntN.{ℤ, pos, ◌-ℤ◌}
 use borrow.Author.Tests.{le-leb, lt-leb}
 use Rattle.laws.specs.Monomial.{degree, divides, lcm}
-use Rattle.laws.specs.Ideal.{In, Within, multiple, Same}
+use Rattle.laws.specs.Ideal.{Within, multiple, Same}
 use Rattle.laws.specs.Count.{bit, count, from_first, monomials, HF}
 use Rattle.laws.specs.Coefficients.{coefficient, Trimmed, one, shift}
 use Rattle.laws.specs.Sums.{sum, sumsℤ}

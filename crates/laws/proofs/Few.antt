@@ -9,7 +9,7 @@
 -- three monomials by degrees (factor_sums, single_sums, pair_sums, two_sums, three_sums).
 use mathlib.Core.Path.{◌≡◌, refl, sym, ap, ap₂, ◌∙◌}
 use mathlib.Core.Logic.{inl, inr}
-use mathlib.Core.Bool.{Bool, true, false, not, ◌||◌, false≢true}
+use mathlib.Core.Bool.{Bool, true, false, not, false≢true}
 use mathlib.Core.List.{List, [], ◌∷◌, ◌++◌}
 use Prim.Native.Nat.{ℕ, zero, suc, ◌+◌, ◌*◌, ◌-◌, ◌≤◌, ◌<◌}
 use native.Mathlib.Omega.{arith}
@@ -17,7 +17,7 @@ use native.Mathlib.Nat.{mul-le-mul_right, suc-mul}
 use native.Mathlib.Numerals.{add-one}
 use lib.Dec.{eqb}
 use lib.ListN.{length, get_or, take, drop, length-take, length-drop, get_or-append}
-use lib.Seq.{get_or-take, get_or-drop, drop-drop, length-take-le, ext_get_or}
+use lib.Seq.{get_or-take, get_or-drop, length-take-le, ext_get_or}
 use lib.IntN.{ℤ, pos, ◌+ℤ◌, ◌-ℤ◌, neg_ℤ, +ℤ_idr, +ℤ_comm, neg_ℤ-+ℤ, neg_ℤ-neg_ℤ}
 use borrow.Author.Tests.{eqb-true, eqb-false}
 use borrow.Rule.Slice.PartMut.{put_mid}
@@ -26,7 +26,7 @@ use Rattle.laws.specs.Ideal.{In, colon}
 use Rattle.laws.specs.Coefficients.{coefficient, shift}
 use Rattle.laws.specs.Numerator.{numerator_at}
 use Rattle.laws.proofs.Monomial.{length_quotient, unit_divides}
-use Rattle.laws.proofs.Coefficients.{shift_ext, shift_zero, shift_shift, shift_below}
+use Rattle.laws.proofs.Coefficients.{shift_ext, shift_shift, shift_below}
 use Rattle.laws.proofs.Numerator.{over_vanishes, numerator_over}
 use Rattle.laws.proofs.Rows.{at, rows, rows_next, rows_ext, row_end, at_cell, Wrote}
 use Rattle.laws.proofs.Room.{put_length, part_whole, room_rest, square}
@@ -112,6 +112,7 @@ degree_none [] h = refl
 degree_none (x ∷ a) h = omega (arith, h 0 (omega arith), degree_none a (λ j l. h (suc j) (omega arith)))
 
 in_rows : (n k i : ℕ) (xs : List ℕ) → i < k → In (at n i xs) (rows n k xs)
+in_rows n zero i xs l = elim l [ ]
 in_rows n (suc k) i xs l = go (λ h. in_rows n k i xs h) (eqb i k) refl
   where
     go : (i < k → In (at n i xs) (rows n k xs)) → (b : Bool) → eqb i k ≡ b → In (at n i xs) (rows n (suc k) xs)
@@ -119,6 +120,7 @@ in_rows n (suc k) i xs l = go (λ h. in_rows n k i xs h) (eqb i k) refl
     go f false e = inr (f (omega (arith, eqb-false i k e)))
 
 in_colon : (a c : List ℕ) (L : List (List ℕ)) → In a L → In (quotient a c) (colon L c)
+in_colon a c [] x' = elim x' [ ]
 in_colon a c (b ∷ L) (inl e) = inl (ap (λ (z : List ℕ). quotient z c) e)
 in_colon a c (b ∷ L) (inr i) = inr (in_colon a c L i)
 

@@ -7,7 +7,7 @@ use mathlib.Core.Path.{◌≡◌, refl, sym, ap, ap₂, ◌∙◌}
 use mathlib.Core.List.{List}
 use Prim.Native.Nat.{ℕ, zero, suc, ◌+◌, ◌*◌, ◌-◌, ◌≤◌, ◌<◌}
 use native.Mathlib.Omega.{arith}
-use native.Mathlib.Nat.{suc-add, add-suc, zero-add, sub_self}
+use native.Mathlib.Nat.{suc-add, zero-add, sub_self}
 use lib.IntN.{ℤ, pos, nat_abs, ◌+ℤ◌, ◌*ℤ◌, *ℤ_comm, *ℤ-zero, suc_ℤ-*ℤ, zero-*ℤ, +ℤ_idl, +ℤ_idr, +ℤ_assoc, pos-+ℤ-pos, pos-*ℤ-pos}
 use Rattle.laws.specs.Ideal.{Within}
 use Rattle.laws.specs.Count.{HF}

@@ -12,7 +12,7 @@
 --   listed_all, listed_none, listed_next  from 0 on, past the end, and from i on by number i and the rest
 --   multiple-lcmOf                        each member divides the lcm of all
 use mathlib.Core.Path.{◌≡◌, refl, sym, ap, ap₂, ◌∙◌}
-use mathlib.Core.Logic.{◌⊎◌, inl, inr, ◌≢◌}
+use mathlib.Core.Logic.{◌⊎◌, inl, inr}
 use mathlib.Core.Bool.{Bool, true, false, ◌||◌, false≢true}
 use mathlib.Core.List.{List, [], ◌∷◌, ◌++◌}
 use Prim.Native.Nat.{ℕ, zero, suc, ◌+◌, ◌*◌, ◌-◌, ◌≤◌, ◌<◌}
@@ -23,7 +23,7 @@ use lib.Dec.{eqb}
 use lib.ListN.{length, take, drop, length-take, length-drop}
 use lib.Seq.{drop-drop}
 use borrow.Author.Tests.{eqb-true}
-use Rattle.laws.specs.Monomial.{degree, divides, product, quotient, lcm}
+use Rattle.laws.specs.Monomial.{degree, divides, product, quotient}
 use Rattle.laws.specs.Ideal.{listed, In, Width, Within, multiple, Same, lcm_of, colon, unit_in}
 use Rattle.laws.proofs.Monomial.{or_right, bool_ext, divides_refl, divides_trans, quotient_divides, length_product, length_quotient, unit_divides, divides_lcm_left, divides_lcm_right}
 

@@ -6,8 +6,8 @@
 use mathlib.Core.Path.{◌≡◌, refl, sym, ap, ap₂, ◌∙◌}
 use mathlib.Core.Logic.{◌⊎◌, inl, inr}
 use mathlib.Core.Bool.{Bool, true, false}
-use mathlib.Core.List.{List, [], ◌∷◌, map}
-use Prim.Native.Nat.{ℕ, zero, suc, ◌+◌, ◌-◌, ◌≤◌, ◌<◌}
+use mathlib.Core.List.{List, [], map}
+use Prim.Native.Nat.{ℕ, ◌+◌, ◌-◌, ◌≤◌, ◌<◌}
 use native.Mathlib.Omega.{arith}
 use lib.Dec.{ltb}
 use lib.ListN.{length, get_or-eq_default}
@@ -15,7 +15,7 @@ use lib.IntN.{ℤ, pos, ◌+ℤ◌, ◌-ℤ◌, neg_ℤ, +ℤ_idl, +ℤ_idr}
 use borrow.Author.Tests.{ltb-true, ltb-false}
 use Rattle.laws.specs.Monomial.{degree}
 use Rattle.laws.specs.Coefficients.{coefficient, shift}
-use Rattle.laws.proofs.Coefficients.{shift_at, shift_below}
+use Rattle.laws.proofs.Coefficients.{shift_at}
 use Rattle.laws.proofs.Numerator.{PairwiseCoprime}
 use Rattle.laws.proofs.Rows.{at, rows, rows_next}
 use Rattle.laws.proofs.Added.{low, low_add, low_sub, low_shift, AddedTo, Zeros, Timed, Adding}

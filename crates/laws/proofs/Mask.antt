@@ -11,7 +11,7 @@
 -- Assumes nothing.
 use mathlib.Core.Path.{◌≡◌, refl, sym, ap, ap₂, ◌∙◌}
 use mathlib.Core.Bool.{Bool, true, false, ◌&&◌, true≢false}
-use mathlib.Core.List.{List, [], ◌∷◌}
+use mathlib.Core.List.{List}
 use Prim.Native.Nat.{ℕ, zero, suc, ◌+◌, ◌*◌, ◌-◌, ◌/◌, ◌%◌, ◌^◌, ◌≤◌, ◌<◌, max, min}
 use native.Mathlib.Nat.{one-mul, mod-eq_of_lt, pow-suc, div-eq_of_lt, div-le_self, div-le_of_le-mul, div-mul-le_self, mul-div-le, le-div_iff_mul-le, div-one, mul-le-mul_right, min-le_left, min-le_right}
 use native.Mathlib.Numerals.{add-one}

@@ -23,7 +23,7 @@
 --   undivided_minimal    a list that falls is minimal exactly when no member is divided by a later one
 --   minimal_test         those two tests pass exactly when L is its own minimal list
 use mathlib.Core.Path.{◌≡◌, refl, sym, ap, ap₂, ◌∙◌}
-use mathlib.Core.Logic.{inl, inr, ◌≢◌, ◌↔◌}
+use mathlib.Core.Logic.{inl, inr, ◌↔◌}
 use mathlib.Core.Bool.{Bool, true, false, not, ◌&&◌, false≢true, cond}
 use mathlib.Core.List.{List, [], ◌∷◌}
 use Prim.Native.Nat.{ℕ, zero, suc, ◌≤◌, ◌<◌, Ordering}

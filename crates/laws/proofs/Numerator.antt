@@ -12,14 +12,14 @@
 --   numerator_degree      0 past the degree of the lcm of all
 --   numerator_coefficient, numerator_trimmed   the trimmed list has these coefficients
 use mathlib.Core.Path.{◌≡◌, refl, sym, ap, ap₂, ◌∙◌}
-use mathlib.Core.Logic.{◌⊎◌, inl, inr, ◌≢◌}
-use mathlib.Core.Bool.{Bool, true, false, not, ◌&&◌, ◌||◌}
+use mathlib.Core.Logic.{inl, inr}
+use mathlib.Core.Bool.{true}
 use mathlib.Core.List.{List, [], ◌∷◌, ◌++◌, map}
-use Prim.Native.Nat.{ℕ, zero, suc, ◌+◌, ◌*◌, ◌≤◌, ◌<◌, ◌^◌, max}
+use Prim.Native.Nat.{ℕ, zero, suc, ◌≤◌, ◌<◌, ◌^◌}
 use native.Mathlib.Omega.{arith}
 use native.Mathlib.Nat.{pow-suc}
 use lib.ListN.{length}
-use lib.IntN.{ℤ, pos, negsuc, ◌+ℤ◌, ◌-ℤ◌, neg_ℤ, nat_abs, +ℤ_assoc, +ℤ_idl, +ℤ_idr, neg_ℤ-+ℤ, -ℤ-+ℤ_cancel}
+use lib.IntN.{ℤ, pos, ◌+ℤ◌, ◌-ℤ◌, neg_ℤ, nat_abs, +ℤ_assoc, +ℤ_idl, +ℤ_idr, neg_ℤ-+ℤ, -ℤ-+ℤ_cancel}
 use Rattle.laws.specs.Monomial.{degree, divides, product, quotient, lcm, coprime}
 use Rattle.laws.specs.Ideal.{In, multiple, lcm_of, colon, unit_in}
 use Rattle.laws.specs.Coefficients.{coefficient, Trimmed, first, one, shift}

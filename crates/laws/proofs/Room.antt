@@ -3,7 +3,7 @@
 --   part-..       the rest of the room, lent to a branch from the cell b
 --   put-..        the room when that branch has left G there
 --   colon_within  quotients have the width
-use mathlib.Core.Path.{◌≡◌, refl, sym, ap, ◌∙◌}
+use mathlib.Core.Path.{◌≡◌, refl, ap, ◌∙◌}
 use mathlib.Core.Logic.{inl, inr}
 use mathlib.Core.Bool.{Bool, true, false}
 use mathlib.Core.List.{List, [], ◌∷◌, ◌++◌}
@@ -14,8 +14,7 @@ use lib.Dec.{leb}
 use lib.ListN.{length, get_or, take, drop, length-take, length-drop, get_or-append}
 use lib.Seq.{get_or-take, take_all, length-take-le}
 use borrow.Rule.Slice.PartMut.{put_mid, same_len_mid}
-use Rattle.laws.specs.Monomial.{quotient}
-use Rattle.laws.specs.Ideal.{In, Within, colon}
+use Rattle.laws.specs.Ideal.{Within, colon}
 use Rattle.laws.specs.Count.{bit}
 use Rattle.laws.proofs.Monomial.{length_quotient}
 use Rattle.laws.proofs.Rows.{rows, rows_ext}

@@ -28,7 +28,7 @@ use lib.ListN.{drop_of_length-le, length, replicate, length-take, length-drop, t
 use lib.Seq.{drop-cons, get_or-take, get_or-drop, ext_get_or, get_or-set_same, get_or-set_other}
 use borrow.Author.Tests.{le-leb, lt-leb, ltb-true, ltb-false, eqb-true, eqb-false}
 use Rattle.laws.specs.Monomial.{degree, divides, quotient}
-use Rattle.laws.specs.Ideal.{In, Within, multiple}
+use Rattle.laws.specs.Ideal.{Within, multiple}
 use Rattle.laws.proofs.Monomial.{or_right, bool_ext, cons_eq, divides_exponent, exponents_divide}
 use Rattle.laws.proofs.Ideal.{within_cons}
 

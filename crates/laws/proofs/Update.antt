@@ -6,18 +6,18 @@
 --   update_step         one new monomial g more takes t^deg(g) · N((existing, new so far) : g) away
 --   update_redundant    one that an earlier monomial divides changes nothing
 use mathlib.Core.Path.{◌≡◌, refl, sym, ap, ap₂, ◌∙◌}
-use mathlib.Core.Bool.{Bool, true, false}
+use mathlib.Core.Bool.{true}
 use mathlib.Core.List.{List, [], ◌∷◌, ◌++◌, append_assoc, append-nil}
-use Prim.Native.Nat.{ℕ, zero, suc, ◌+◌, ◌≤◌, ◌<◌, max}
+use Prim.Native.Nat.{ℕ, ◌≤◌}
 use native.Mathlib.Omega.{arith}
-use lib.ListN.{length, get_or-eq_default}
+use lib.ListN.{get_or-eq_default}
 use lib.IntN.{ℤ, pos, neg_ℤ, ◌+ℤ◌, ◌-ℤ◌, +ℤ_comm, +ℤ_assoc, +ℤ-neg_ℤ_cancel}
-use Rattle.laws.specs.Monomial.{degree, divides, lcm}
+use Rattle.laws.specs.Monomial.{degree, lcm}
 use Rattle.laws.specs.Ideal.{multiple, lcm_of, colon}
 use Rattle.laws.specs.Coefficients.{coefficient, Trimmed, trim, first, shift}
 use Rattle.laws.specs.Numerator.{numerator_at, numerator, update_at, update}
 use Rattle.laws.specs.Room.{update_asked}
-use Rattle.laws.proofs.Monomial.{degree_lcm, lcm_assoc, lcm_comm}
+use Rattle.laws.proofs.Monomial.{degree_lcm, lcm_assoc}
 use Rattle.laws.proofs.Coefficients.{coefficient_first, trim_trimmed, trim_coefficient, trimmed_unique, trim_unique}
 use Rattle.laws.proofs.Numerator.{numerator_degree, numerator_coefficient, numerator_trimmed, numerator_append_one, numerator_append_redundant}
 

@@ -9,7 +9,7 @@
 --   colon L p        == each member's quotient by p: its multiples are the u whose product with p is a multiple of L
 --   unit_in L         == some member is the unit
 -- Assumes nothing.
-use Rattle.std.specs.Prelude.{◌≡◌, refl, ◌⊎◌, Bool, true, false, ◌||◌, List, [], ◌∷◌, map, ℕ, zero, suc, ◌≤◌, eqb, length, take, drop}
+use Rattle.std.specs.Prelude.{◌≡◌, refl, ◌⊎◌, Bool, true, false, ◌||◌, List, [], ◌∷◌, ℕ, zero, suc, ◌≤◌, eqb, length, take, drop}
 use Rattle.laws.specs.Monomial.{degree, divides, lcm, quotient}
 
 abbrev pub listed : ℕ → ℕ → List ℕ → List (List ℕ)

@@ -7,7 +7,7 @@
 --   Minimal n L   == each member has n exponents, and no member divides another
 --   Falling L     == each member is greater by DegRevLex than all that follow it
 -- Assumes nothing.
-use Rattle.std.specs.Prelude.{◌≡◌, refl, Bool, true, false, not, ◌&&◌, ◌||◌, List, [], ◌∷◌, length}
+use Rattle.std.specs.Prelude.{◌≡◌, refl, Bool, true, not, ◌&&◌, List, [], ◌∷◌, length}
 use Prim.Native.Nat.{ℕ, Ordering}
 use Rattle.laws.specs.Monomial.{divides}
 use Rattle.laws.specs.Ideal.{In}

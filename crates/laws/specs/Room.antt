@@ -8,7 +8,7 @@
 --   hilbert_words d         == words of the sum room for `hf_at` at degree d
 --   dimension_words D       == words of the sum room for a dimension
 -- Assumes nothing.
-use Rattle.std.specs.Prelude.{◌≡◌, refl, Bool, true, false, ◌||◌, cond, List, [], ◌∷◌, map, ℕ, suc, ◌+◌, ◌*◌, max, eqb, ℤ, length}
+use Rattle.std.specs.Prelude.{◌≡◌, refl, Bool, false, ◌||◌, cond, List, [], ◌∷◌, map, ℕ, suc, ◌+◌, ◌*◌, max, eqb, ℤ, length}
 use Rattle.laws.specs.Monomial.{degree, exponent}
 use Rattle.laws.specs.Ideal.{lcm_of}
 use Rattle.laws.specs.Sums.{sum_below}

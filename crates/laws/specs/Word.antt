@@ -7,7 +7,7 @@
 --   pair B low high   == the number that two words are
 --   carry a s         == 1 where s, the wrapped sum of a and some word, lost a base: where s < a; else 0
 -- Assumes nothing.
-use Rattle.std.specs.Prelude.{◌≡◌, refl, Bool, true, false, cond, List, [], ◌∷◌, ℕ, suc, ◌+◌, ◌*◌, ◌-◌, ◌%◌, ◌/◌, ltb, ℤ, pos, negsuc}
+use Rattle.std.specs.Prelude.{◌≡◌, refl, cond, List, [], ◌∷◌, ℕ, suc, ◌+◌, ◌*◌, ◌-◌, ◌%◌, ◌/◌, ltb, ℤ, pos, negsuc}
 use Rattle.laws.specs.Count.{bit}
 
 abbrev pub plus : ℤ → ℕ
