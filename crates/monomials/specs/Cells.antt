@@ -9,7 +9,7 @@
 --   tested_checks ..  == checks 1 and 3 of a call that writes, then the test of each variable, with the refusal r
 --   tested_answer .., tested_cells .. == its answer, and its output after the call
 -- Assumes nothing.
-use Rattle.std.specs.Prelude.{Bool, true, false, not, ◌&&◌, ◌||◌, List, [], ◌∷◌, ◌++◌, leb, eqb, length}
+use Rattle.std.specs.Prelude.{Bool, true, not, ◌&&◌, ◌||◌, List, [], ◌∷◌, ◌++◌, leb, eqb, length}
 use Prim.Native.Nat.{ℕ, ◌+◌, ◌-◌, ◌%◌, max, min, Ordering}
 use Rattle.laws.specs.Order.{lex, degrevlex}
 use Rattle.monomials.specs.Refusal.{Check, refusal, after}

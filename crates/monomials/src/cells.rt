@@ -5,7 +5,7 @@ ghost use Rattle.monomials.specs.Cells.{passes_of, combined_of, all_cells, zip_c
 use crate::refusal::MAX_EXPONENT;
 
 // What is asked of the two exponents of each variable.
-#[derive(Drop)]
+#[derive(Clone, Copy)]
 pub(crate) enum Test {
     // The first is at most the second.
     AtMost,
@@ -44,7 +44,7 @@ pub(crate) fn all_cells(test: Test, a: &[u16], b: &[u16]) -> bool
 }
 
 // What is made of the two exponents of each variable.
-#[derive(Drop)]
+#[derive(Clone, Copy)]
 pub(crate) enum Combine {
     // Their sum, modulo the size of a cell.
     Sum,

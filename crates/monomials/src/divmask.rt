@@ -7,20 +7,20 @@ ghost use Rattle.monomials.specs.Mask.{mask_answer, words};
 use crate::refusal::{MAX_WIDTH, Refusal};
 
 // The low and the high word.
-#[derive(Drop)]
+#[derive(Clone, Copy)]
 pub struct DivMask {
     pub low: u64,
     pub high: u64,
 }
 
 // A mask, or why there is none.
-#[derive(Drop)]
+#[derive(Clone, Copy)]
 pub enum MaskOutcome {
     Value(DivMask),
     Refused(Refusal),
 }
 
-#[derive(Drop)]
+#[derive(Clone, Copy)]
 pub struct MaskAnswer {
     pub outcome: MaskOutcome,
 }

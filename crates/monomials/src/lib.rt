@@ -1,4 +1,6 @@
 // Layer 1: monomials, their two orders and divisibility masks. Every call checks its own input and refuses by number.
+#![tactic(auto)]
+
 mod cells;
 pub mod divmask;
 pub mod monomial;

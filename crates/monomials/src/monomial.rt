@@ -12,56 +12,56 @@ use crate::cells::{Combine, Test, all_cells, wide, wipe, write_cells};
 use crate::refusal::{MAX_EXPONENT, MAX_WIDTH, Refusal};
 
 // A number, or why there is none.
-#[derive(Drop)]
+#[derive(Clone, Copy)]
 pub enum NumberOutcome {
     Value(u64),
     Refused(Refusal),
 }
 
-#[derive(Drop)]
+#[derive(Clone, Copy)]
 pub struct NumberAnswer {
     pub outcome: NumberOutcome,
 }
 
 // The output is written, or why it is not.
-#[derive(Drop)]
+#[derive(Clone, Copy)]
 pub enum WriteOutcome {
     Written,
     Refused(Refusal),
 }
 
-#[derive(Drop)]
+#[derive(Clone, Copy)]
 pub struct WriteAnswer {
     pub outcome: WriteOutcome,
 }
 
 // Yes or no, or why neither.
-#[derive(Drop)]
+#[derive(Clone, Copy)]
 pub enum TestOutcome {
     Value(bool),
     Refused(Refusal),
 }
 
-#[derive(Drop)]
+#[derive(Clone, Copy)]
 pub struct TestAnswer {
     pub outcome: TestOutcome,
 }
 
 // How the first monomial compares with the second.
-#[derive(Drop)]
+#[derive(Clone, Copy)]
 pub enum Order {
     Less,
     Equal,
     Greater,
 }
 
-#[derive(Drop)]
+#[derive(Clone, Copy)]
 pub enum OrderOutcome {
     Value(Order),
     Refused(Refusal),
 }
 
-#[derive(Drop)]
+#[derive(Clone, Copy)]
 pub struct OrderAnswer {
     pub outcome: OrderOutcome,
 }
@@ -266,7 +266,7 @@ fn test_pair(test: Test, a: &[u16], b: &[u16]) -> TestAnswer
 }
 
 // The two orders.
-#[derive(Drop)]
+#[derive(Clone, Copy)]
 enum MonomialOrder {
     Lex,
     DegRevLex,

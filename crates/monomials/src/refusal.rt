@@ -12,7 +12,7 @@ pub const MAX_COUNT: usize = 60;
 pub const MAX_EXPONENT: u32 = 65535;
 
 // Why a call refuses.
-#[derive(Drop)]
+#[derive(Clone, Copy)]
 pub enum Refusal {
     // 1: the width is above MAX_WIDTH.
     Width,

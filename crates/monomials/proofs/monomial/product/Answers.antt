@@ -1,5 +1,4 @@
 -- `product` meets its contract. Rests on `all_fits` and `zip_product`.
-use borrow.Author.Rules.{rules}
 use mathlib.Core.Path.{◌∙◌}
 use Rattle.laws.specs.Monomial.{product}
 use Rattle.monomials.specs.Cells.{passes_of, combined_of, all_cells, zip_cells}
@@ -9,21 +8,12 @@ use Rattle.monomials.specs.declared.refusal.Refusal.TheVariants.{Exponent}
 use Rattle.monomials.specs.Monomial.{at_most, write_checks}
 use Rattle.monomials.proofs.Checks.{max_width, max_exponent, write_width, tested_passed}
 use Rattle.monomials.proofs.Pairs.{all_fits, zip_product}
-use Rattle.monomials.proofs.monomial.product.Statement.{statement}
-use Rattle.monomials.proofs.monomial.product.Tie as tie
+use Rattle.monomials.proofs.monomial.product.Goals as goal
 
-pub product_spec : {M : Type 1} → statement M
-product_spec =
-    tie.close
-    (tie.spec
-    (λ c κs. search rules)
-    (λ c. search rules)
-    -- returns
-    (λ c.
-    let p2 = c.before.before in
-    let p7 = p2.before.before.before.before.before in
-    let a = p7.args.a.now in
-    let b = p7.args.b.now in
-    let out = p7.args.out.now in
+pub returns : goal.returns
+returns c =
+    let a = c.args.a.now in
+    let b = c.args.b.now in
+    let out = c.args.out.now in
     let same = tested_passed (write_checks max_width a b out) (all_cells (passes_of max_exponent SumFits) a b) (at_most max_exponent (product a b)) Exponent (zip_cells (combined_of Sum) a b) (product a b) out (λ h. all_fits max_exponent a b (write_width max_width a b out h)) (λ h. zip_product a b (write_width max_width a b out h)) in
-    (p2.write_if.ensures.0 ∙ same.0, p2.write_if.ensures.1 ∙ same.1)))
+    record { value = c.write_if.ensures.value ∙ same.0; out_after = c.write_if.ensures.out_after ∙ same.1 }
