@@ -77,7 +77,7 @@ product_determined κs a r r' s s' p q = p ∙ sym q
 pub times_determined : (κs : Lfts 0) (a : _) (r r' : Product) (s s' : _) → times.Post κs a r s → times.Post κs a r' s' → r ≡ r'
 times_determined κs a r r' s s' p q = p ∙ sym q
 
--- of what the total then is, over the clause itself: a function that is proved by a walk has no plain reading
+-- of what the total then is, over the clause itself
 pub add_into_determined : {M : Type 1} {𝓤 : Ura M} (𝓛 : Logic 𝓤) (at_mem : Memory → SProp 𝓤) (run : Routine → Fun 𝓤) (κs : Lfts 1) (a : _) (r r' : _) (s s' : _)
     → ent 𝓤 (sep 𝓤 ((add_into.clauses 𝓛 at_mem run κs a).ensures tt r s) ((add_into.clauses 𝓛 at_mem run κs a).ensures tt r' s')) (fact 𝓤 (s.0.now ≡ s'.0.now))
 add_into_determined {𝓤 = 𝓤} 𝓛 at_mem run κs a r r' s s' =

@@ -145,6 +145,10 @@ module _ (n s : ℕ) (xs : List ℕ) (t : ℕ) (ys : List ℕ) (large : Bool) (l
         second_lent = rw eb (ltb-false second coefficients v);
       }
 
+pub passed : {n s t : ℕ} {xs ys : List ℕ} {large : Bool} {least room first second : ℕ} {r : Rooms} {a : Sizes} → r ≡ outcome n s xs t ys large least room first second → r ≡ Rooms.Asked a
+    → Passed n s xs t ys large least room first second a
+passed e f = asked_is _ _ _ _ _ _ _ _ _ _ _ _ e f
+
 -- a call on one list: no second list, no given coefficients
 module _ (n s : ℕ) (xs : List ℕ) (room first second : ℕ) where
   pub one_cells : cells_asked n (both n s xs 0 []) ≡ cells_asked n (listed n s xs)

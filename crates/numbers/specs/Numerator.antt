@@ -11,7 +11,7 @@
 --   numerator_answer         == the answer: the trimmed length
 --   numerator_room, numerator_first, numerator_second == the exponent room and the two coefficient rooms after the call
 -- Assumes nothing.
-use Rattle.std.specs.Prelude.{ℕ, ◌-◌, ◌*◌, Bool, not, ◌||◌, List, [], ◌∷◌, ◌++◌, length, drop, replicate, ℤ, pos, ◌==◌, nat_lt}
+use Rattle.std.specs.Prelude.{ℕ, ◌-◌, ◌*◌, not, ◌||◌, List, [], ◌∷◌, ◌++◌, length, drop, replicate, ℤ, pos, ◌==◌, nat_lt}
 use Rattle.std.proofs.Math.Option.{Option, none, some}
 use Rattle.laws.specs.Ideal.{listed}
 use Rattle.laws.specs.Numerator.{numerator}

@@ -4,7 +4,7 @@
 --   rooms_answer n s xs t ys large least room first second == the refusal, if any, or else the sizes asked, of coefficients at least `least`
 -- Assumes nothing.
 use Rattle.std.specs.Prelude.{ℕ, ◌+◌, max, Bool, ◌||◌, List, [], ◌∷◌, ◌++◌, nat_lt}
-use Rattle.std.proofs.Math.Option.{Option·elim}
+use Rattle.std.proofs.Math.Option.{Option-elim}
 use Rattle.laws.specs.Ideal.{listed}
 use Rattle.laws.specs.Room.{cells_asked, coefficients_asked}
 use Rattle.monomials.specs.Refusal.{Check, refusal, too_wide}
@@ -25,7 +25,7 @@ rooms_checks n s xs t ys large least room first second =
 
 unfoldable pub rooms_answer : ℕ → ℕ → List ℕ → ℕ → List ℕ → Bool → ℕ → ℕ → ℕ → ℕ → Rooms
 rooms_answer n s xs t ys large least room first second =
-    Option·elim
+    Option-elim
     (refusal (rooms_checks n s xs t ys large least room first second))
     (Rooms.Asked (record { cells = cells_asked n (listed n s xs ++ listed n t ys); coefficients = max (coefficients_asked (listed n s xs ++ listed n t ys)) least }))
     Rooms.Refused

@@ -9,14 +9,14 @@ use crate::extent::extent_of;
 use monomials::refusal::{MAX_COUNT, MAX_WIDTH, Refusal};
 
 // The exponent cells asked, and the coefficients asked of either room.
-#[derive(Drop)]
+#[derive(Clone, Copy)]
 pub(crate) struct Sizes {
     pub(crate) cells: usize,
     pub(crate) coefficients: usize,
 }
 
 // The sizes asked of the rooms, or a refusal.
-#[derive(Drop)]
+#[derive(Clone, Copy)]
 pub(crate) enum Rooms {
     Asked(Sizes),
     Refused(Refusal),

@@ -4,13 +4,13 @@ ghost use Rattle.laws.specs.Coefficients.{coefficient, trim};
 ghost use Rattle.numbers.specs.Coefficients.{degree_of};
 
 // A degree; the polynomial 0 has none.
-#[derive(Drop)]
+#[derive(Clone, Copy)]
 pub enum DegreeOutcome {
     Value(u64),
     None,
 }
 
-#[derive(Drop)]
+#[derive(Clone, Copy)]
 pub struct DegreeAnswer {
     pub outcome: DegreeOutcome,
 }

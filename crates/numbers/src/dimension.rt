@@ -16,20 +16,20 @@ use crate::wide::Wide;
 use monomials::refusal::{MAX_COUNT, MAX_WIDTH, Refusal};
 
 // A dimension, and the top degree beside it.
-#[derive(Drop)]
+#[derive(Clone, Copy)]
 pub struct Dimension {
     pub dimension: Wide,
     pub top: u64,
 }
 
 // A dimension, or why there is none.
-#[derive(Drop)]
+#[derive(Clone, Copy)]
 pub enum DimensionOutcome {
     Value(Dimension),
     Refused(Refusal),
 }
 
-#[derive(Drop)]
+#[derive(Clone, Copy)]
 pub struct DimensionAnswer {
     pub outcome: DimensionOutcome,
 }

@@ -2,7 +2,7 @@
 // s monomials in the cells xs and, behind them, t in ys.
 ghost use Rattle.std.specs.Prelude.{◌≡◌, ℕ, ◌+◌, ◌*◌, ◌/◌, ◌%◌, ◌<◌, ◌≤◌, length, drop, if◌then◌else◌, slice_index};
 ghost use Rattle.laws.specs.Ideal.{listed};
-ghost use Rattle.laws.specs.Room.{coefficients_asked, column, distinct as distinctOf, holds, pairs as pairsOf};
+ghost use Rattle.laws.specs.Room.{coefficients_asked, column, distinct as distinct_of, holds, pairs as pairs_of};
 ghost use Rattle.laws.proofs.Asked.{Lists, Measured, both, greatest};
 ghost use Rattle.laws.proofs.Columns.{Greatest};
 
@@ -11,7 +11,7 @@ use crate::leaf::degree;
 use crate::minimal::less;
 
 // How many different pairs, and the degree of the lcm.
-#[derive(Drop)]
+#[derive(Clone, Copy)]
 pub(crate) struct Extent {
     pub(crate) pairs: usize,
     pub(crate) degree: usize,
@@ -40,8 +40,8 @@ fn later(n: usize, s: usize, xs: &[u16], t: usize, ys: &[u16], from: usize, x: u
 // What the monomials in xs add to those in ys.
 fn added(n: usize, s: usize, xs: &[u16], t: usize, ys: &[u16]) -> Extent
     requires { Lists n s xs.now t ys.now }
-    ensures ys_value { (result.pairs + pairsOf n (listed n t ys.now) ≡ pairsOf n (both n s xs.now t ys.now)) × (result.pairs ≤ 4096 * 4096) }
-    ensures ys_value_2 { (result.degree + coefficients_asked (listed n t ys.now) ≡ coefficients_asked (both n s xs.now t ys.now)) × (result.degree ≤ 4096 * 4096 * 65535) }
+    ensures pairs_added { (result.pairs + pairs_of n (listed n t ys.now) ≡ pairs_of n (both n s xs.now t ys.now)) × (result.pairs ≤ 4096 * 4096) }
+    ensures degree_added { (result.degree + coefficients_asked (listed n t ys.now) ≡ coefficients_asked (both n s xs.now t ys.now)) × (result.degree ≤ 4096 * 4096 * 65535) }
 {
     let end = s * n;
     let mut pairs: usize = 0;
@@ -77,7 +77,7 @@ fn of_two(n: usize, s: usize, xs: &[u16], t: usize, ys: &[u16]) -> Extent
 // How many different exponents other than 0 variable v has.
 fn distinct(n: usize, s: usize, cells: &[u16], v: usize) -> usize
     requires { Lists n s cells.now 0 cells.now × (v < n) }
-    ensures { result ≡ distinctOf (column (both n s cells.now 0 cells.now) v) }
+    ensures { result ≡ distinct_of (column (both n s cells.now 0 cells.now) v) }
 {
     let end = s * n;
     let mut count: usize = 0;
@@ -97,7 +97,7 @@ fn distinct(n: usize, s: usize, cells: &[u16], v: usize) -> usize
 // The different pairs, variable by variable, whose greatest exponents us has.
 fn pairs_by_columns(n: usize, s: usize, cells: &[u16], us: &[u16]) -> usize
     requires { Lists n s cells.now 0 cells.now × Greatest n (both n s cells.now 0 cells.now) us.now }
-    ensures { result ≡ pairsOf n (both n s cells.now 0 cells.now) }
+    ensures { result ≡ pairs_of n (both n s cells.now 0 cells.now) }
 {
     let mut pairs: usize = 0;
     let mut v: usize = 0;

@@ -18,7 +18,7 @@ use crate::rows::row;
 fn divide(room: &mut [u16], from: usize, by: usize, to: usize, n: usize) -> bool
     requires { (from + n ≤ to) × (by + n ≤ to) × (to + n ≤ length room.old) }
     ensures wrote { Wrote room.old (λ j. slice_index room.old (from + j) - slice_index room.old (by + j)) to n room.new }
-    ensures j_value { result ≡ true → (j : ℕ) → j < n → slice_index room.old (from + j) - slice_index room.old (by + j) ≡ 0 }
+    ensures unit_left { result ≡ true → (j : ℕ) → j < n → slice_index room.old (from + j) - slice_index room.old (by + j) ≡ 0 }
 {
     let mut unit = true;
     let mut i: usize = 0;
@@ -53,7 +53,7 @@ fn quotients(room: &mut [u16], n: usize, k: usize) -> bool
 }
 
 // Degrees: of the monomials a and b and of the quotient a : b.
-#[derive(Drop)]
+#[derive(Clone, Copy)]
 struct Pair {
     a: usize,
     b: usize,
@@ -61,7 +61,7 @@ struct Pair {
 }
 
 // The same of three: further of c, of a : c and b : c, and of the quotient of these two.
-#[derive(Drop)]
+#[derive(Clone, Copy)]
 struct Triple {
     a: usize,
     b: usize,
@@ -99,9 +99,9 @@ fn pair_degrees(a: &[u16], b: &[u16]) -> Pair
 // The degrees of three monomials, in one pass.
 fn triple_degrees(a: &[u16], b: &[u16], c: &[u16]) -> Triple
     requires { (length a.now ≡ length b.now) × (length a.now ≡ length c.now) × (length a.now ≤ 65536) }
-    ensures degree_is { DegreeIs result.a a.now × DegreeIs result.b b.now × DegreeIs result.ab (quotient a.now b.now) × DegreeIs result.c c.now }
-    ensures degree_is_2 { DegreeIs result.ac (quotient a.now c.now) × DegreeIs result.bc (quotient b.now c.now) }
-    ensures degree_is_3 { DegreeIs result.acbc (quotient (quotient a.now c.now) (quotient b.now c.now)) }
+    ensures listed { DegreeIs result.a a.now × DegreeIs result.b b.now × DegreeIs result.ab (quotient a.now b.now) × DegreeIs result.c c.now }
+    ensures quotients { DegreeIs result.ac (quotient a.now c.now) × DegreeIs result.bc (quotient b.now c.now) }
+    ensures quotient_of_quotients { DegreeIs result.acbc (quotient (quotient a.now c.now) (quotient b.now c.now)) }
 {
     let mut da: u32 = 0;
     let mut db: u32 = 0;
@@ -201,7 +201,7 @@ pub(crate) fn few(
     out: &mut [i64],
 )
     requires n_in_bounds { (m * m * n ≤ length room.old) × (n ≤ 65536) × (shift < 2305843009213693952) }
-    requires k_value { unit ≡ true → (k : ℕ) → numerator_at (rows n m room.old) k ≡ pos 0 }
+    requires unit_listed { unit ≡ true → (k : ℕ) → numerator_at (rows n m room.old) k ≡ pos 0 }
     ensures { AddedTo (shifted shift (λ k. by neg (seeded (coefficient seed.now) [] (rows n m room.old) k))) out.old out.new }
 {
     if unit {

@@ -3,7 +3,7 @@
 // seen at the end.
 ghost use Rattle.std.specs.Prelude.{◌≡◌, ℕ, suc, ◌+◌, ◌*◌, ◌^◌, ◌<◌, ◌≤◌, length, replicate, slice_set, unsigned_abs};
 ghost use Rattle.laws.specs.Coefficients.{coefficient};
-ghost use Rattle.laws.specs.Sums.{sum_below, sums as prefixSums};
+ghost use Rattle.laws.specs.Sums.{sum_below, sums as prefix_sums};
 ghost use Rattle.numbers.specs.Wide.{value};
 ghost use Rattle.numbers.specs.Hilbert.{hilbert_answer, hilbert_room};
 ghost use Rattle.numbers.specs.HilbertParts.{number_at, kept, term_of};
@@ -17,13 +17,13 @@ use monomials::refusal::{MAX_WIDTH, Refusal};
 pub const MAX_DEGREE: usize = 65536;
 
 // A signed two-word number, or why there is none.
-#[derive(Drop)]
+#[derive(Clone, Copy)]
 pub enum SignedOutcome {
     Value(Wide),
     Refused(Refusal),
 }
 
-#[derive(Drop)]
+#[derive(Clone, Copy)]
 pub struct SignedAnswer {
     pub outcome: SignedOutcome,
 }
@@ -63,7 +63,7 @@ fn refused(refusal: Refusal) -> SignedAnswer
 }
 
 // What is summed: the coefficients modulo 2^128, or their magnitudes, held down to 2^127.
-#[derive(Drop)]
+#[derive(Clone, Copy)]
 pub(crate) enum Terms {
     Signed,
     Magnitudes,
@@ -78,7 +78,7 @@ pub(crate) fn prefix_sum(
     words: &mut [u64],
 ) -> Wide
     requires { 2 * (d + 1) ≤ length words.old }
-    ensures result_value { kept terms (value result) ≡ kept terms (prefixSums n (λ k. term_of terms (coefficient coeffs.now k)) d) }
+    ensures result_value { kept terms (value result) ≡ kept terms (prefix_sums n (λ k. term_of terms (coefficient coeffs.now k)) d) }
     ensures d_bound { unsigned_abs (coefficient coeffs.now d) < 2 ^ 64 }
     ensures words_after { words.new ≡ replicate (length words.old) 0 }
 {
@@ -97,8 +97,8 @@ pub(crate) fn prefix_sum(
 // The first `count` terms, one number each.
 fn fill(terms: Terms, coeffs: &[i64], count: usize, words: &mut [u64])
     requires { 2 * count ≤ length words.old }
-    ensures by_index { (k : ℕ) → k < count → number_at words.new k ≡ term_of terms (coefficient coeffs.now k) }
-    ensures by_index_2 { (k : ℕ) → k < count → unsigned_abs (coefficient coeffs.now k) < 2 ^ 64 }
+    ensures terms { (k : ℕ) → k < count → number_at words.new k ≡ term_of terms (coefficient coeffs.now k) }
+    ensures magnitudes { (k : ℕ) → k < count → unsigned_abs (coefficient coeffs.now k) < 2 ^ 64 }
 {
     let mut k: usize = 0;
     while k < count {

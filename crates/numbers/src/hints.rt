@@ -7,7 +7,7 @@ use crate::rows::row;
 
 // What the bits suggest: that the monomials are few, or a part with no variable in common with the rest (0 for none), the most frequent
 // variable, and the monomials that have it.
-#[derive(Drop)]
+#[derive(Clone, Copy)]
 pub(crate) struct Hint {
     pub(crate) few: bool,
     pub(crate) part: u64,

@@ -1,4 +1,6 @@
 // Layer 2: two-word numbers, coefficient lists, the numerator and its update, the Hilbert function and the dimension.
+#![tactic(auto)]
+
 mod asked;
 mod branch;
 pub mod coefficients;

@@ -1,6 +1,6 @@
 // Lists made smaller with the same multiples, and the quotients by a power.
 ghost use Rattle.std.specs.Prelude.{◌≡◌, ◌-◌, ◌*◌, ◌<◌, ◌≤◌, true, ◌≢◌, length};
-ghost use Rattle.laws.specs.Monomial.{divides as dividesCells};
+ghost use Rattle.laws.specs.Monomial.{divides as divides_cells};
 ghost use Rattle.laws.proofs.Rows.{at};
 ghost use Rattle.laws.proofs.Pass.{Thinned, ColonOf};
 
@@ -9,7 +9,7 @@ use crate::rows::{copy_cells, row};
 // Whether the monomial a divides b.
 pub(crate) fn divides(a: &[u16], b: &[u16]) -> bool
     requires { length a.now ≡ length b.now }
-    ensures { result ≡ dividesCells a.now b.now }
+    ensures { result ≡ divides_cells a.now b.now }
 {
     let mut i: usize = 0;
     while i < a.len() {
@@ -24,7 +24,7 @@ pub(crate) fn divides(a: &[u16], b: &[u16]) -> bool
 // Another monomial whose bit is set and that divides number i, or m.
 fn divisor(room: &[u16], n: usize, m: usize, i: usize, having: u64) -> usize
     requires { (m * n ≤ length room.now) × (i < m) }
-    ensures { result < m → (result ≢ i) × (dividesCells (at n result room.now) (at n i room.now) ≡ true) }
+    ensures { result < m → (result ≢ i) × (divides_cells (at n result room.now) (at n i room.now) ≡ true) }
 {
     let mut bits = having;
     let mut k: usize = 0;

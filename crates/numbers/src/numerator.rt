@@ -15,13 +15,13 @@ use crate::rows::wipe;
 use monomials::refusal::{MAX_COUNT, MAX_WIDTH, Refusal};
 
 // How many coefficients, or why there are none.
-#[derive(Drop)]
+#[derive(Clone, Copy)]
 pub enum LengthOutcome {
     Value(usize),
     Refused(Refusal),
 }
 
-#[derive(Drop)]
+#[derive(Clone, Copy)]
 pub struct LengthAnswer {
     pub outcome: LengthOutcome,
 }

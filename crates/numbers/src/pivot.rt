@@ -6,7 +6,7 @@ ghost use Rattle.laws.proofs.Column.{above, Choosing};
 use crate::rows::exponent;
 
 // A variable, how many monomials have it, and an exponent.
-#[derive(Drop)]
+#[derive(Clone, Copy)]
 pub(crate) struct Choice {
     pub(crate) count: usize,
     pub(crate) v: usize,

@@ -1,6 +1,6 @@
 // Pure powers: the least one of each variable, and from them the degree bound and the product, with the checks 13 and 11.
 ghost use Rattle.std.specs.Prelude.{◌≡◌, ℕ, ◌*◌, ◌<◌, ◌≤◌, ◌≢◌, length, if◌then◌else◌, nat_eq, slice_index};
-ghost use Rattle.laws.specs.Dimension.{pure_power, lesser as lesserOf};
+ghost use Rattle.laws.specs.Dimension.{pure_power, lesser as lesser_of};
 ghost use Rattle.laws.specs.Ideal.{listed, unit_in};
 ghost use Rattle.numbers.specs.DimensionParts.{Cells, BoundOf, bound_answer};
 ghost use Rattle.numbers.specs.Wide.{product_answer};
@@ -12,7 +12,7 @@ use crate::wide::{Product, Wide};
 use monomials::refusal::{MAX_WIDTH, Refusal};
 
 // The degree bound, a dimension that is known without it, or a refusal.
-#[derive(Drop)]
+#[derive(Clone, Copy)]
 pub(crate) enum Checked {
     Bound(usize),
     Known(Wide),
@@ -51,7 +51,7 @@ pub(crate) fn checked_bound(n: usize, s: usize, cells: &[u16]) -> Checked
 // The least power of each variable, 0 where it has none, once the monomial m is in the list too.
 fn take_in(m: &[u16], powers: &mut [u16])
     requires { (length m.now ≤ 65536) × (length m.now ≤ length powers.old) }
-    ensures { (v : ℕ) → v < length m.now → slice_index powers.new v ≡ lesserOf (pure_power m.now v) (slice_index powers.old v) }
+    ensures { (v : ℕ) → v < length m.now → slice_index powers.new v ≡ lesser_of (pure_power m.now v) (slice_index powers.old v) }
 {
     let d = degree(m);
     let mut v: usize = 0;
@@ -63,7 +63,7 @@ fn take_in(m: &[u16], powers: &mut [u16])
 
 // The lesser of x, where it is the whole degree d, and y; of either 0 is none.
 fn lesser(d: usize, x: u16, y: u16) -> u16
-    ensures { result ≡ lesserOf (if nat_eq d x then x else 0) y }
+    ensures { result ≡ lesser_of (if nat_eq d x then x else 0) y }
 {
     if d != x as usize {
         return y;

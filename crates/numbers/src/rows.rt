@@ -24,7 +24,7 @@ pub(crate) fn exponent(room: &[u16], n: usize, i: usize, v: usize) -> u16
 // n cells from `from` to `to`.
 pub(crate) fn copy_cells(room: &mut [u16], from: usize, to: usize, n: usize)
     requires n_in_bounds { (from + n ≤ length room.old) × (to + n ≤ length room.old) }
-    requires fact { (to ≤ from) ⊎ (from + n ≤ to) }
+    requires apart { (to ≤ from) ⊎ (from + n ≤ to) }
     ensures { Wrote room.old (λ j. slice_index room.old (from + j)) to n room.new }
 {
     let mut i: usize = 0;

@@ -8,7 +8,7 @@ ghost use Rattle.laws.specs.Room.{update_asked};
 ghost use Rattle.laws.proofs.Added.{AddedTo, Zeros};
 ghost use Rattle.laws.proofs.Asked.{both};
 ghost use Rattle.laws.proofs.Grown.{grown};
-ghost use Rattle.numbers.specs.Update.{beyond as beyondOf, update_answer, update_room, update_first, update_second};
+ghost use Rattle.numbers.specs.Update.{beyond as beyond_of, update_answer, update_room, update_first, update_second};
 
 use crate::asked::{Rooms, checked};
 use crate::coefficients::trimmed_length;
@@ -78,7 +78,7 @@ pub fn add_generators(
 
 // Whether a given coefficient is greater than MAX_COEFFICIENT in magnitude.
 fn beyond(given: &[i64]) -> bool
-    ensures { result ≡ beyondOf MAX_COEFFICIENT given.now }
+    ensures { result ≡ beyond_of MAX_COEFFICIENT given.now }
 {
     let mut k: usize = 0;
     while k < given.len() {

@@ -5,14 +5,14 @@ ghost use Rattle.numbers.specs.Wide.{value, wide, wide_of, product_answer};
 
 use crate::signed::magnitude;
 
-#[derive(Drop)]
+#[derive(Clone, Copy)]
 pub struct Wide {
     pub low: u64,
     pub high: u64,
 }
 
 // A product below 2^127, or that it passed.
-#[derive(Drop)]
+#[derive(Clone, Copy)]
 pub enum Product {
     Exact(Wide),
     Passed,
