@@ -7,13 +7,13 @@
 --   place_checks, place_answer, place_part    the reader of one monomial: 12, 4; the part that is handed back
 --   copy_checks, copy_answer, copy_cells      the reader of all: 12, 14; width and count; the cells after the call
 -- Assumes nothing.
-use Rattle.std.specs.Prelude.{◌≡◌, refl, not, List, [], ◌∷◌, ◌++◌, ℕ, ◌*◌, ltb, leb, eqb, length, drop, replicate}
+use Rattle.std.specs.Prelude.{◌≡◌, refl, not, List, [], ◌∷◌, ◌++◌, ℕ, ◌*◌, ltb, leb, length, drop, replicate}
 use Rattle.std.proofs.Math.Option.{Option, none, some}
 use Rattle.laws.specs.Ideal.{listed}
 use Rattle.laws.specs.Record.{ideal_record, is_record, width_in, count_in, exponents_in, part_of}
 use Rattle.monomials.specs.Refusal.{Check, refusal, after}
 use Rattle.monomials.specs.declared.refusal.Refusal.{Refusal}
-use Rattle.monomials.specs.declared.refusal.Refusal.TheVariants.{Width, Count, Cells, Place, Record, Output}
+use Rattle.monomials.specs.declared.refusal.Refusal.TheVariants.{Width, Cells, Place, Record, Output}
 use Rattle.numbers.specs.Numerator.{list_checks}
 use Rattle.records.specs.declared.ideal.SizeOutcome.{SizeOutcome}
 use Rattle.records.specs.declared.ideal.SizeAnswer.{SizeAnswer}

@@ -26,7 +26,7 @@ const SUM_ROOM: usize = 4096;
 
 // What an answer record tells: done or what is refused, the dimension and the top degree, both 0 with a refusal. A struct of words is handed
 // on sooner than an answer with its outcome.
-#[derive(Drop)]
+#[derive(Clone, Copy)]
 struct Told {
     dimension: Wide,
     top: u64,
@@ -48,8 +48,7 @@ pub fn answer_record(rec: &[u8], out: &mut [u8]) -> CheckAnswer
 }
 
 // The same for a host in C, which is told the number.
-#[unsafe(no_mangle)]
-pub extern "C" fn purlthicket_dim(rec: &[u8], out: &mut [u8]) -> u8
+pub fn purlthicket_dim(rec: &[u8], out: &mut [u8]) -> u8
     ensures value { result ≡ host_number MAX_WIDTH MAX_COUNT MAX_DEGREE ANSWER_SIZE rec.now out.old }
     ensures out_after { out.new ≡ host_bytes MAX_WIDTH MAX_COUNT MAX_DEGREE ANSWER_SIZE rec.now out.old }
 {

@@ -24,44 +24,44 @@ pub(crate) const FEW_CELLS: usize = 256;
 pub(crate) const SHORT_RECORD: usize = 7 + 2 * FEW_CELLS;
 
 // A size in bytes, or why there is none.
-#[derive(Drop)]
+#[derive(Clone, Copy)]
 pub enum SizeOutcome {
     Value(usize),
     Refused(Refusal),
 }
 
-#[derive(Drop)]
+#[derive(Clone, Copy)]
 pub struct SizeAnswer {
     pub outcome: SizeOutcome,
 }
 
 // Nothing is wrong, or what is.
-#[derive(Drop)]
+#[derive(Clone, Copy)]
 pub enum CheckOutcome {
     Done,
     Refused(Refusal),
 }
 
-#[derive(Drop)]
+#[derive(Clone, Copy)]
 pub struct CheckAnswer {
     pub outcome: CheckOutcome,
 }
 
 // The width and the count of a list.
-#[derive(Drop)]
+#[derive(Clone, Copy)]
 pub struct Shape {
     pub n: usize,
     pub m: usize,
 }
 
 // What was copied, or why nothing was.
-#[derive(Drop)]
+#[derive(Clone, Copy)]
 pub enum CopyOutcome {
     Value(Shape),
     Refused(Refusal),
 }
 
-#[derive(Drop)]
+#[derive(Clone, Copy)]
 pub struct CopyAnswer {
     pub outcome: CopyOutcome,
 }

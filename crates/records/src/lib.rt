@@ -1,4 +1,6 @@
 // Layer 3: the ideal record, the answer record, and the call from one to the other. Every call checks its own input and refuses by number.
+#![tactic(auto)]
+
 pub mod answer;
 mod bytes;
 mod choice;

@@ -1,6 +1,6 @@
 // Monomials of width n that lie in cells, one after another, told by their places.
 ghost use Rattle.std.specs.Prelude.{◌≡◌, ◌+◌, ◌*◌, ◌≤◌, ◌<◌, length, drop};
-ghost use Rattle.laws.specs.Monomial.{divides as dividesOf};
+ghost use Rattle.laws.specs.Monomial.{divides as divides_of};
 ghost use Rattle.laws.specs.Ideal.{listed, multiple};
 ghost use Rattle.laws.specs.Order.{degrevlex};
 ghost use Rattle.laws.specs.Minimal.{proper, minimal_in};
@@ -31,7 +31,7 @@ pub(crate) fn compare_rows(n: usize, cells: &[u16], i: usize, j: usize) -> Order
 pub(crate) fn row_divides(n: usize, cells: &[u16], i: usize, j: usize) -> bool
     requires n_le_max_width { n ≤ MAX_WIDTH }
     requires n_in_bounds { (i * n + n ≤ length cells.now) × (j * n + n ≤ length cells.now) }
-    ensures { result ≡ dividesOf (row n cells.now i) (row n cells.now j) }
+    ensures { result ≡ divides_of (row n cells.now i) (row n cells.now j) }
 {
     let a = i * n;
     let a_end = a + n;
