@@ -5,7 +5,7 @@
 --   of_order a    == 0 less, 1 equal, 2 greater
 --   of_mask a     == the low word, the high word
 -- Assumes nothing.
-use Rattle.std.specs.Prelude.{◌≡◌, refl, List, [], ◌∷◌, ℕ}
+use Rattle.std.specs.Prelude.{◌≡◌, refl, [], ◌∷◌, ℕ}
 use Rattle.laws.specs.Monomial.{power}
 use Rattle.monomials.specs.Monomial.{degree_answer, exponent_answer, degrevlex_answer}
 use Rattle.monomials.specs.Mask.{mask_answer}

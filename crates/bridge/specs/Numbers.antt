@@ -5,7 +5,7 @@
 --   of_length a    == the length
 --   of_dimension a == the low word, the high word, the top degree
 -- Assumes nothing.
-use Rattle.std.specs.Prelude.{◌≡◌, refl, List, [], ◌∷◌, ℕ, ◌-◌, ◌^◌, ℤ, pos, negsuc, replicate}
+use Rattle.std.specs.Prelude.{◌≡◌, refl, [], ◌∷◌, ℕ, ◌-◌, ◌^◌, pos, negsuc, replicate}
 use Rattle.numbers.specs.Coefficients.{degree_of}
 use Rattle.numbers.specs.Hilbert.{hilbert_answer}
 use Rattle.numbers.specs.declared.coefficients.DegreeOutcome.{DegreeOutcome}

@@ -11,8 +11,7 @@ use crate::told::{Told, bit_of, tell};
 use numbers::coefficients::{DegreeAnswer, DegreeOutcome};
 
 // 1 where every coefficient is 0, else 0.
-#[unsafe(no_mangle)]
-pub extern "C" fn pt_is_zero(coeffs: &[i64], values: &mut [u64; 4]) -> u8
+pub fn pt_is_zero(coeffs: &[i64], values: &mut [u64; 4]) -> u8
     ensures value { result ≡ number_in (of_word (bit_of (eqb (length (trim coeffs.now)) 0))) }
     ensures values_after { values.new ≡ values_in (of_word (bit_of (eqb (length (trim coeffs.now)) 0))) values.old }
 {
@@ -23,8 +22,7 @@ pub extern "C" fn pt_is_zero(coeffs: &[i64], values: &mut [u64; 4]) -> u8
 }
 
 // 1 and the degree, or 0 where every coefficient is 0.
-#[unsafe(no_mangle)]
-pub extern "C" fn pt_coeff_degree(coeffs: &[i64], values: &mut [u64; 4]) -> u8
+pub fn pt_coeff_degree(coeffs: &[i64], values: &mut [u64; 4]) -> u8
     ensures value { result ≡ number_in (of_degree (degree_of coeffs.now)) }
     ensures values_after { values.new ≡ values_in (of_degree (degree_of coeffs.now)) values.old }
 {
@@ -32,8 +30,7 @@ pub extern "C" fn pt_coeff_degree(coeffs: &[i64], values: &mut [u64; 4]) -> u8
 }
 
 // The 64 bits of the coefficient of t^d.
-#[unsafe(no_mangle)]
-pub extern "C" fn pt_coeff(coeffs: &[i64], d: u64, values: &mut [u64; 4]) -> u8
+pub fn pt_coeff(coeffs: &[i64], d: u64, values: &mut [u64; 4]) -> u8
     ensures value { result ≡ number_in (of_word (of_z w64 (coefficient coeffs.now d))) }
     ensures values_after { values.new ≡ values_in (of_word (of_z w64 (coefficient coeffs.now d))) values.old }
 {

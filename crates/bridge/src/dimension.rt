@@ -10,8 +10,7 @@ use numbers::dimension::{DimensionAnswer, DimensionOutcome};
 use numbers::hf_at::MAX_DEGREE;
 
 // The low word and the high word of the dimension of the s monomials in `cells`, and the top degree.
-#[unsafe(no_mangle)]
-pub extern "C" fn pt_dimension(
+pub fn pt_dimension(
     n: u64,
     s: u64,
     cells: &[u16],

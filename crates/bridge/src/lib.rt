@@ -1,5 +1,7 @@
-// The calls over numbers and slices alone, for C and Rust: tests/bridge/bridge.h declares them. Each returns the call's number, 0 where it
-// is done, and writes `values` only then.
+// The calls over numbers and slices alone, for C and Rust: `bridge_c` exports them. Each returns the call's number, 0 where it is done, and
+// writes `values` only then.
+#![tactic(auto)]
+
 pub mod coefficients;
 pub mod dimension;
 pub mod hilbert;

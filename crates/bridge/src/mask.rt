@@ -9,8 +9,7 @@ use monomials::divmask::{MaskAnswer, MaskOutcome};
 use monomials::refusal::MAX_WIDTH;
 
 // The low word and the high word of the mask.
-#[unsafe(no_mangle)]
-pub extern "C" fn pt_mask(n: u64, max_deg: u16, exps: &[u16], values: &mut [u64; 4]) -> u8
+pub fn pt_mask(n: u64, max_deg: u16, exps: &[u16], values: &mut [u64; 4]) -> u8
     ensures value { result ≡ number_in (of_mask (mask_answer MAX_WIDTH n max_deg exps.now)) }
     ensures values_after { values.new ≡ values_in (of_mask (mask_answer MAX_WIDTH n max_deg exps.now)) values.old }
 {

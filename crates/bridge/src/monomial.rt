@@ -12,8 +12,7 @@ use monomials::monomial::{
 use monomials::refusal::{MAX_EXPONENT, MAX_WIDTH};
 
 // The degree of a.
-#[unsafe(no_mangle)]
-pub extern "C" fn pt_degree(a: &[u16], values: &mut [u64; 4]) -> u8
+pub fn pt_degree(a: &[u16], values: &mut [u64; 4]) -> u8
     ensures value { result ≡ number_in (of_number (degree_answer MAX_WIDTH a.now)) }
     ensures values_after { values.new ≡ values_in (of_number (degree_answer MAX_WIDTH a.now)) values.old }
 {
@@ -21,8 +20,7 @@ pub extern "C" fn pt_degree(a: &[u16], values: &mut [u64; 4]) -> u8
 }
 
 // The exponent of variable v in a.
-#[unsafe(no_mangle)]
-pub extern "C" fn pt_exponent(a: &[u16], v: u64, values: &mut [u64; 4]) -> u8
+pub fn pt_exponent(a: &[u16], v: u64, values: &mut [u64; 4]) -> u8
     ensures value { result ≡ number_in (of_number (exponent_answer MAX_WIDTH a.now v)) }
     ensures values_after { values.new ≡ values_in (of_number (exponent_answer MAX_WIDTH a.now v)) values.old }
 {
@@ -33,8 +31,7 @@ pub extern "C" fn pt_exponent(a: &[u16], v: u64, values: &mut [u64; 4]) -> u8
 }
 
 // Variable v to the x, in n variables.
-#[unsafe(no_mangle)]
-pub extern "C" fn pt_power(n: u64, v: u64, x: u16, out: &mut [u16]) -> u8
+pub fn pt_power(n: u64, v: u64, x: u16, out: &mut [u16]) -> u8
     ensures value { result ≡ number_in (of_write (power_answer MAX_WIDTH n v out.old)) }
     ensures out_after { out.new ≡ power_cells MAX_WIDTH n v x out.old }
 {
@@ -42,8 +39,7 @@ pub extern "C" fn pt_power(n: u64, v: u64, x: u16, out: &mut [u16]) -> u8
 }
 
 // The product of a and b.
-#[unsafe(no_mangle)]
-pub extern "C" fn pt_product(a: &[u16], b: &[u16], out: &mut [u16]) -> u8
+pub fn pt_product(a: &[u16], b: &[u16], out: &mut [u16]) -> u8
     ensures value { result ≡ number_in (of_write (product_answer MAX_WIDTH MAX_EXPONENT a.now b.now out.old)) }
     ensures out_after { out.new ≡ product_cells MAX_WIDTH MAX_EXPONENT a.now b.now out.old }
 {
@@ -51,8 +47,7 @@ pub extern "C" fn pt_product(a: &[u16], b: &[u16], out: &mut [u16]) -> u8
 }
 
 // a divided by b.
-#[unsafe(no_mangle)]
-pub extern "C" fn pt_quotient(a: &[u16], b: &[u16], out: &mut [u16]) -> u8
+pub fn pt_quotient(a: &[u16], b: &[u16], out: &mut [u16]) -> u8
     ensures value { result ≡ number_in (of_write (quotient_answer MAX_WIDTH a.now b.now out.old)) }
     ensures out_after { out.new ≡ quotient_cells MAX_WIDTH a.now b.now out.old }
 {
@@ -60,8 +55,7 @@ pub extern "C" fn pt_quotient(a: &[u16], b: &[u16], out: &mut [u16]) -> u8
 }
 
 // The lcm of a and b.
-#[unsafe(no_mangle)]
-pub extern "C" fn pt_lcm(a: &[u16], b: &[u16], out: &mut [u16]) -> u8
+pub fn pt_lcm(a: &[u16], b: &[u16], out: &mut [u16]) -> u8
     ensures value { result ≡ number_in (of_write (lcm_answer MAX_WIDTH a.now b.now out.old)) }
     ensures out_after { out.new ≡ lcm_cells MAX_WIDTH a.now b.now out.old }
 {
@@ -69,8 +63,7 @@ pub extern "C" fn pt_lcm(a: &[u16], b: &[u16], out: &mut [u16]) -> u8
 }
 
 // The gcd of a and b.
-#[unsafe(no_mangle)]
-pub extern "C" fn pt_gcd(a: &[u16], b: &[u16], out: &mut [u16]) -> u8
+pub fn pt_gcd(a: &[u16], b: &[u16], out: &mut [u16]) -> u8
     ensures value { result ≡ number_in (of_write (gcd_answer MAX_WIDTH a.now b.now out.old)) }
     ensures out_after { out.new ≡ gcd_cells MAX_WIDTH a.now b.now out.old }
 {
@@ -78,8 +71,7 @@ pub extern "C" fn pt_gcd(a: &[u16], b: &[u16], out: &mut [u16]) -> u8
 }
 
 // 1 where a divides b, else 0.
-#[unsafe(no_mangle)]
-pub extern "C" fn pt_divides(a: &[u16], b: &[u16], values: &mut [u64; 4]) -> u8
+pub fn pt_divides(a: &[u16], b: &[u16], values: &mut [u64; 4]) -> u8
     ensures value { result ≡ number_in (of_test (divides_answer MAX_WIDTH a.now b.now)) }
     ensures values_after { values.new ≡ values_in (of_test (divides_answer MAX_WIDTH a.now b.now)) values.old }
 {
@@ -87,8 +79,7 @@ pub extern "C" fn pt_divides(a: &[u16], b: &[u16], values: &mut [u64; 4]) -> u8
 }
 
 // 1 where no variable stands in both, else 0.
-#[unsafe(no_mangle)]
-pub extern "C" fn pt_coprime(a: &[u16], b: &[u16], values: &mut [u64; 4]) -> u8
+pub fn pt_coprime(a: &[u16], b: &[u16], values: &mut [u64; 4]) -> u8
     ensures value { result ≡ number_in (of_test (coprime_answer MAX_WIDTH a.now b.now)) }
     ensures values_after { values.new ≡ values_in (of_test (coprime_answer MAX_WIDTH a.now b.now)) values.old }
 {
@@ -96,8 +87,7 @@ pub extern "C" fn pt_coprime(a: &[u16], b: &[u16], values: &mut [u64; 4]) -> u8
 }
 
 // a against b by Lex: 0 less, 1 equal, 2 greater.
-#[unsafe(no_mangle)]
-pub extern "C" fn pt_lex(a: &[u16], b: &[u16], values: &mut [u64; 4]) -> u8
+pub fn pt_lex(a: &[u16], b: &[u16], values: &mut [u64; 4]) -> u8
     ensures value { result ≡ number_in (of_order (lex_answer MAX_WIDTH a.now b.now)) }
     ensures values_after { values.new ≡ values_in (of_order (lex_answer MAX_WIDTH a.now b.now)) values.old }
 {
@@ -105,8 +95,7 @@ pub extern "C" fn pt_lex(a: &[u16], b: &[u16], values: &mut [u64; 4]) -> u8
 }
 
 // a against b by DegRevLex: 0 less, 1 equal, 2 greater.
-#[unsafe(no_mangle)]
-pub extern "C" fn pt_degrevlex(a: &[u16], b: &[u16], values: &mut [u64; 4]) -> u8
+pub fn pt_degrevlex(a: &[u16], b: &[u16], values: &mut [u64; 4]) -> u8
     ensures value { result ≡ number_in (of_order (degrevlex_answer MAX_WIDTH a.now b.now)) }
     ensures values_after { values.new ≡ values_in (of_order (degrevlex_answer MAX_WIDTH a.now b.now)) values.old }
 {

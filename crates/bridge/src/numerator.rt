@@ -11,8 +11,7 @@ use numbers::numerator::{LengthAnswer, LengthOutcome};
 use numbers::update::MAX_COEFFICIENT;
 
 // The trimmed length of the numerator of the s monomials in `cells`, whose coefficients stand in `first`.
-#[unsafe(no_mangle)]
-pub extern "C" fn pt_numerator(
+pub fn pt_numerator(
     n: u64,
     s: u64,
     cells: &[u16],
@@ -36,8 +35,7 @@ pub extern "C" fn pt_numerator(
 }
 
 // The trimmed length of g + N(existing and added) - N(existing), whose coefficients stand in `first`.
-#[unsafe(no_mangle)]
-pub extern "C" fn pt_update(
+pub fn pt_update(
     n: u64,
     g: &[i64],
     s0: u64,

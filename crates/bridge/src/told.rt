@@ -5,7 +5,7 @@ ghost use Rattle.bridge.specs.Told.{bit_of, number_in, values_in};
 use monomials::refusal::Refusal;
 
 // The first three words, the fourth being 0; or why there are none.
-#[derive(Drop)]
+#[derive(Clone, Copy)]
 pub enum Told {
     Done(u64, u64, u64),
     Refused(Refusal),
