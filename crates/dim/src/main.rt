@@ -1,6 +1,11 @@
-// Reads one ideal record on standard input, to its end, and writes its answer record to standard output and nothing else. That `main` reads
-// standard input and writes what `answer_to` gives is tested, not proved: no contract can say what is read or written.
-ghost use Rattle.std.specs.Prelude.{◌≡◌};
+// Reads one ideal record on standard input, to its end, and writes its answer record to standard output and nothing else. `answer` does so for
+// every reader and writer whose bytes a contract can name. Standard input and output are not among them: that they carry these bytes is
+// tested, not proved.
+#![tactic(auto)]
+
+ghost use Rattle.std.specs.Prelude.{◌≡◌, ◌<◌, All, take, length, IfOk, IfSome, OnOk};
+ghost use Rattle.std.specs.Io.{ReadsAtMost};
+ghost use Rattle.std.specs.Io.KnownBytes.{Appends, Consumes, IsAtEnd};
 ghost use Rattle.dim.specs.Dim.{dim_bytes};
 
 use monomials::refusal::{MAX_COUNT, MAX_WIDTH};
@@ -8,15 +13,42 @@ use numbers::hf_at::MAX_DEGREE;
 use records::answer::ANSWER_SIZE;
 use records::host::answer_record;
 use records::ideal::MAX_RECORD;
+use std::io;
+use std::io::{Read, Write};
 
 // One byte more than the longest record has: a longer input is no record, and neither is what is read of it (`whole_input`).
 const MAX_INPUT: usize = MAX_RECORD + 1;
 
-fn main() {
-    let mut input = [0u8; MAX_INPUT];
-    let size = io::read_full(0, &mut input);
-    let out = answer_to(&input[0..size]);
-    io::write_all(1, &out);
+fn main(rt: HostRuntime) -> io::Result<()> {
+    answer(&mut rt.stdin(), &mut rt.stdout())
+}
+
+// Reads an input to its end and writes its answer record.
+fn answer<R: Read, W: Write>(input: &mut R, output: &mut W) -> io::Result<()>
+    ensures { OnOk result (IfSome (R.remaining input.old) (λ bytes. All (λ byte. byte < 256) bytes
+        → Appends (W.contents output.old) (W.contents output.new) (dim_bytes MAX_WIDTH MAX_COUNT MAX_DEGREE ANSWER_SIZE bytes))) }
+{
+    let mut room = [0u8; MAX_INPUT];
+    let size = read_full(input, &mut room)?;
+    let out = answer_to(&room[0..size]);
+    output.write_all(&out)
+}
+
+// Reads until the slice is full or the input ends; how many bytes, from the front of the slice on, were read.
+fn read_full<R: Read>(input: &mut R, room: &mut [u8]) -> io::Result<usize>
+    ensures within { ReadsAtMost result room.new }
+    ensures bytes { IfOk result (λ n. Consumes (R.remaining input.old) (R.remaining input.new) (take n room.new)) }
+    ensures end { IfOk result (λ n. n < length room.new → IsAtEnd (R.remaining input.new)) }
+{
+    let mut size: usize = 0;
+    while size < room.len() {
+        let n = input.read(&mut room[size..])?;
+        if n == 0 {
+            break;
+        }
+        size += n;
+    }
+    Ok(size)
 }
 
 // The answer record of the input.

@@ -8,7 +8,7 @@ use vectors::rooms::{
 use vectors::told::{Told, done, is_answer, refused};
 
 // How much of each room is zero after a call; the two coefficient rooms are alike.
-#[derive(Drop)]
+#[derive(Clone, Copy)]
 struct Left {
     cells: u64,
     coefficients: u64,

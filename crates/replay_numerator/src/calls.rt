@@ -9,7 +9,7 @@ use vectors::rooms::{
 use vectors::told::{Told, done, output_at, refused};
 
 // Two lists of width n in cells: s0 monomials in the first `existing` cells, and s1 in those after them, up to `all`.
-#[derive(Drop)]
+#[derive(Clone, Copy)]
 pub struct Lists {
     pub n: usize,
     pub s0: usize,

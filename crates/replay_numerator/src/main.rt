@@ -1,16 +1,22 @@
 // Replays the test vectors of the numerator and of its update, which it reads on standard input: how many cases of each call were compared,
 // and how many were wrong.
+#![tactic(auto)]
+
 mod calls;
 mod cases;
 
 use cases::is_right;
+use std::io;
+use vectors::counts::{say_counts, tally};
+use vectors::input::read_full;
 
-fn main() {
+fn main(rt: HostRuntime) -> io::Result<()> {
     let mut room = [0u8; 393216];
-    let size = io::read_full(0, &mut room);
+    let size = read_full(&mut rt.stdin(), &mut room)?;
     let mut counts = [0u64; 23];
     replay(&room[0..size], &mut counts);
-    vectors::counts::say_counts(&counts);
+    say_counts(&counts, &mut rt.stdout())?;
+    Ok(())
 }
 
 fn replay(text: &[u8], counts: &mut [u64]) {
@@ -26,6 +32,6 @@ fn replay_line(text: &[u8], at: usize, counts: &mut [u64]) {
     let code = vectors::integer_at(text, at);
     if code.magnitude != 0 {
         let right = is_right(code.magnitude, text, code.next);
-        vectors::counts::tally(counts, code.magnitude, right);
+        tally(counts, code.magnitude, right);
     }
 }

@@ -10,7 +10,7 @@ use vectors::rooms::{
 };
 use vectors::told::{Told, done, is_answer, is_told, output_at, refused};
 
-#[derive(Drop)]
+#[derive(Clone, Copy)]
 pub enum Verdict {
     Right,
     Wrong,

@@ -1,18 +1,23 @@
 // Replays the test vectors of ideal records, which it reads on standard input: how many cases of each call were compared, how many were
 // wrong, and how many are of the bridge alone.
+#![tactic(auto)]
+
 mod calls;
 
 use calls::{Verdict, compared};
+use std::io;
+use vectors::counts::{say_counts, tally};
+use vectors::input::read_full;
 
-fn main() {
+fn main(rt: HostRuntime) -> io::Result<()> {
     let mut room = [0u8; 262144];
-    let size = io::read_full(0, &mut room);
+    let size = read_full(&mut rt.stdin(), &mut room)?;
     let mut counts = [0u64; 35];
     let mut apart = [0u64; 1];
     replay(&room[0..size], &mut counts, &mut apart);
-    vectors::counts::say_counts(&counts);
-    io::print_decimal(1, apart[0]);
-    io::write_all(1, b" of the bridge alone, not compared\n");
+    say_counts(&counts, &mut rt.stdout())?;
+    let bridge_alone = apart[0];
+    println!(rt; "{bridge_alone} of the bridge alone, not compared")
 }
 
 fn replay(text: &[u8], counts: &mut [u64], apart: &mut [u64; 1]) {
@@ -31,8 +36,8 @@ fn replay_line(text: &[u8], at: usize, counts: &mut [u64], apart: &mut [u64; 1])
     }
     let verdict = compared(code.magnitude, text, code.next);
     match verdict {
-        Verdict::Right => vectors::counts::tally(counts, code.magnitude, true),
-        Verdict::Wrong => vectors::counts::tally(counts, code.magnitude, false),
-        Verdict::Apart => vectors::counts::tally(apart, 0, true),
+        Verdict::Right => tally(counts, code.magnitude, true),
+        Verdict::Wrong => tally(counts, code.magnitude, false),
+        Verdict::Apart => tally(apart, 0, true),
     }
 }

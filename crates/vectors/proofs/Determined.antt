@@ -1,12 +1,16 @@
--- Any two outcomes that a contract of the reader allows are equal.
+-- Any two outcomes that a contract of the reader allows are equal, but those of `read_full`, which takes what a stream gives.
 -- Assumes nothing.
-use Rattle.std.proofs.Common.{◌≡◌, ℕ, Bool, sym, ◌∙◌}
+use Rattle.std.proofs.Common.{◌≡◌, ℕ, Bool, Ok, sym, ◌∙◌}
 use contract.Lifetimes.{Lfts}
+use denote.Param.Laws.{Laws}
+use denote.RattleType.{RattleType}
+use mir.Syntax.{Dict}
+use Rattle.std.specs.declared.io.traits.Write.{Ghosts}
 use Rattle.vectors.specs.declared.Integer.{Integer}
 use Rattle.vectors.specs.declared.rooms.Contents.{Contents}
 use Rattle.vectors.specs.declared.rooms.Compared.{Compared}
 use Rattle.vectors.specs.declared.told.Told.{Told}
-use Rattle.vectors.proofs.integer_at.Reads as integer_at_lem
+use Rattle.vectors.proofs.integer_at.Reads as integer_at
 use Rattle.vectors.proofs.line_after.Reads as line_after
 use Rattle.vectors.proofs.is_line_end.Reads as is_line_end
 use Rattle.vectors.proofs.rooms.list_at.Reads as list_at
@@ -22,15 +26,15 @@ use Rattle.vectors.proofs.rooms.are_words.Reads as are_words
 use Rattle.vectors.proofs.rooms.are_coefficients.Reads as are_coefficients
 use Rattle.vectors.proofs.counts.tally.Reads as tally
 use Rattle.vectors.proofs.counts.say_counts.Reads as say_counts
-use Rattle.vectors.proofs.asked.cells_asked.Reads as cells_asked_lem
-use Rattle.vectors.proofs.asked.coefficients_asked.Reads as coefficients_asked_lem
+use Rattle.vectors.proofs.asked.cells_asked.Reads as cells_asked
+use Rattle.vectors.proofs.asked.coefficients_asked.Reads as coefficients_asked
 use Rattle.vectors.proofs.told.refused.Reads as refused
 use Rattle.vectors.proofs.told.done.Reads as done
 use Rattle.vectors.proofs.told.is_told.Reads as is_told
 use Rattle.vectors.proofs.told.is_answer.Reads as is_answer
-use Rattle.vectors.proofs.told.output_at.Reads as output_at_lem
+use Rattle.vectors.proofs.told.output_at.Reads as output_at
 
-pub integer_at_determined : (κs : Lfts 1) (a : _) (r r' : Integer) (s s' : _) → integer_at_lem.Post κs a r s → integer_at_lem.Post κs a r' s' → r ≡ r'
+pub integer_at_determined : (κs : Lfts 1) (a : _) (r r' : Integer) (s s' : _) → integer_at.Post κs a r s → integer_at.Post κs a r' s' → r ≡ r'
 integer_at_determined κs a r r' s s' p q = p ∙ sym q
 
 pub line_after_determined : (κs : Lfts 1) (a : _) (r r' : ℕ) (s s' : _) → line_after.Post κs a r s → line_after.Post κs a r' s' → r ≡ r'
@@ -77,13 +81,14 @@ are_coefficients_determined κs a r r' s s' p q = p ∙ sym q
 pub tally_determined : (κs : Lfts 1) (a : _) (r r' : _) (s s' : _) → tally.Post κs a r s → tally.Post κs a r' s' → s.0.now ≡ s'.0.now
 tally_determined κs a r r' s s' p q = p ∙ sym q
 
-pub say_counts_determined : (κs : Lfts 1) (a : _) (r r' : ℕ) (s s' : _) → say_counts.Post κs a r s → say_counts.Post κs a r' s' → r ≡ r'
-say_counts_determined κs a r r' s s' p q = p ∙ sym q
+-- of how many cases were compared, where all could be written
+pub say_counts_determined : (W : RattleType) (laws : Laws W) (write : Ghosts W.Denot) (dict : Dict) (κs : Lfts 3) (a : _) (n n' : ℕ) (s s' : _) → say_counts.Post W laws write dict κs a (Ok n) s → say_counts.Post W laws write dict κs a (Ok n') s' → n ≡ n'
+say_counts_determined W laws write dict κs a n n' s s' p q = p ∙ sym q
 
-pub cells_asked_determined : (κs : Lfts 1) (a : _) (r r' : ℕ) (s s' : _) → cells_asked_lem.Post κs a r s → cells_asked_lem.Post κs a r' s' → r ≡ r'
+pub cells_asked_determined : (κs : Lfts 1) (a : _) (r r' : ℕ) (s s' : _) → cells_asked.Post κs a r s → cells_asked.Post κs a r' s' → r ≡ r'
 cells_asked_determined κs a r r' s s' p q = p ∙ sym q
 
-pub coefficients_asked_determined : (κs : Lfts 1) (a : _) (r r' : ℕ) (s s' : _) → coefficients_asked_lem.Post κs a r s → coefficients_asked_lem.Post κs a r' s' → r ≡ r'
+pub coefficients_asked_determined : (κs : Lfts 1) (a : _) (r r' : ℕ) (s s' : _) → coefficients_asked.Post κs a r s → coefficients_asked.Post κs a r' s' → r ≡ r'
 coefficients_asked_determined κs a r r' s s' p q = p ∙ sym q
 
 pub refused_determined : (κs : Lfts 0) (a : _) (r r' : Told) (s s' : _) → refused.Post κs a r s → refused.Post κs a r' s' → r ≡ r'
@@ -98,5 +103,5 @@ is_told_determined κs a r r' s s' p q = p ∙ sym q
 pub is_answer_determined : (κs : Lfts 1) (a : _) (r r' : Bool) (s s' : _) → is_answer.Post κs a r s → is_answer.Post κs a r' s' → r ≡ r'
 is_answer_determined κs a r r' s s' p q = p ∙ sym q
 
-pub output_at_determined : (κs : Lfts 1) (a : _) (r r' : Contents) (s s' : _) → output_at_lem.Post κs a r s → output_at_lem.Post κs a r' s' → r ≡ r'
+pub output_at_determined : (κs : Lfts 1) (a : _) (r r' : Contents) (s s' : _) → output_at.Post κs a r s → output_at.Post κs a r' s' → r ≡ r'
 output_at_determined κs a r r' s s' p q = p ∙ sym q

@@ -1,10 +1,10 @@
 -- The exponent cells and the coefficients that a list asks for, from its cells as they lie, one monomial after another.
---   spaced g j xs     == after j elements one is taken, and then one after each g elements passed over
+--   spaced g j xs      == after j elements one is taken, and then one after each g elements passed over
 --   pairs_in g cells   == how many cells are other than 0 and stand in no later cell of the same variable, where g cells lie between two of
---                        a variable: the different pairs of a variable and a nonzero exponent
+--                         a variable: the different pairs of a variable and a nonzero exponent
 --   cells_of n s cells == s·n·(s + e) for s monomials of width n in s·n cells, e being the number of pairs; 0 for more than 65,535 monomials
---                        or cells, which no call takes
---   above g cells     == by how much each cell is above all later cells of the same variable, added: the degree of the lcm of all
+--                         or cells, which no call takes
+--   above g cells      == by how much each cell is above all later cells of the same variable, added: the degree of the lcm of all
 --   coefficients_of n cells == 1 + the degree of the lcm; 0 for more than 65,535 cells
 -- Assumes nothing.
 use Rattle.std.specs.Prelude.{◌≡◌, ℕ, zero, suc, ◌+◌, ◌-◌, ◌*◌, cond, ◌||◌, List, [], ◌∷◌, length, ◌==◌, nat_lt, refl}

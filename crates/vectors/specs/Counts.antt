@@ -1,7 +1,7 @@
 -- Cases counted by their call's code; those that are wrong are counted under 0, which is no code.
---   one_more i xs          == one more in place i, modulo 2^64
+--   one_more i xs == one more in place i, modulo 2^64
 --   tallied code right xs == the counts after one case more
---   total xs              == all counts added
+--   total xs      == all counts added
 -- Assumes nothing.
 use Rattle.std.specs.Prelude.{◌≡◌, ℕ, ◌+◌, ◌%◌, ◌^◌, Bool, true, false, cond, List, [], ◌∷◌, slice_index, slice_set, refl}
 

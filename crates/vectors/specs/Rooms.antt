@@ -1,14 +1,14 @@
 -- What slices hold that a case gives or lends. c says it: `count` integers of the text, zeros, and then the pattern.
 --   bits_of i          == the 64 bits of the integer i
 --   place_after k s at == the place after k integers that stand at `at`
---   wanted s c j      == element j of what c says, as 64 bits
+--   wanted s c j       == element j of what c says, as 64 bits
 --   byte_at, cell_at, word_at, coefficient_at == the same as an element of a slice
 --   list_of n f        == f 0, .., f (n − 1)
---   every n p         == p holds of each number below n
+--   every n p          == p holds of each number below n
 --   list_at s at       == the list at `at`: its length, and then its elements
---   wiped k           == no integers, and k zeros
+--   wiped k            == no integers, and k zeros
 --   place_in s c n     == the place after as many of the integers as n elements take
---   compared s c xs   == whether xs has all the integers and is what c says, and the place after them
+--   compared s c xs    == whether xs has all the integers and is what c says, and the place after them
 -- Assumes nothing.
 use Rattle.std.specs.Prelude.{◌≡◌, ℕ, zero, suc, ◌+◌, ◌-◌, ◌%◌, ◌^◌, min, Bool, true, false, cond, ◌&&◌, List, [], ◌∷◌, ◌++◌, length, ℤ, nat_eq, nat_le, nat_lt, slice_index, refl}
 use Rattle.std.specs.Int.{w64}

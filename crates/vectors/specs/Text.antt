@@ -1,8 +1,8 @@
 -- Decimal integers in a text of bytes.
---   largest        == the largest word
+--   largest         == the largest word
 --   is_digit b      == the byte b is one of 0 .. 9
 --   is_minus s at   == a minus stands at `at`
---   digits s       == the digits with which s begins
+--   digits s        == the digits with which s begins
 --   value_of v ds   == the number that the digits ds make, written after the number v
 --   magnitude_of s  == the number with which s begins, or the largest word where it is larger; 0 where there is no digit
 --   end_of s at     == the place after the digits at `at` and the byte that ends them, if there is one
@@ -62,8 +62,8 @@ test_second = refl
 test_past : integer_at (49 ∷ []) 1 ≡ record { negative = false; magnitude = 0; next = 1 }
 test_past = refl
 
-test_line_lem : line_after (49 ∷ 50 ∷ 10 ∷ 45 ∷ []) 1 ≡ 3
-test_line_lem = refl
+test_line : line_after (49 ∷ 50 ∷ 10 ∷ 45 ∷ []) 1 ≡ 3
+test_line = refl
 
 test_ended : line_ended (49 ∷ 50 ∷ 10 ∷ 45 ∷ []) 3 ≡ true
 test_ended = refl

@@ -1,8 +1,8 @@
 -- What a call tells: the first `count` of its number and three values.
 --   refused_by number, done_with count first second third == a refusal; 0 and values
---   told_words t       == the words told
---   told_at at t       == as many integers, at `at`
---   answered s at t   == those words stand at `at`, and then the line ends
+--   told_words t          == the words told
+--   told_at at t          == as many integers, at `at`
+--   answered s at t       == those words stand at `at`, and then the line ends
 --   output_at s at number == what an output then holds: the list at `at` after 0, and else what it held, with nothing more at `at`
 -- Assumes nothing.
 use Rattle.std.specs.Prelude.{◌≡◌, ℕ, min, Bool, cond, ◌&&◌, List, [], ◌∷◌, take, ◌==◌, refl}

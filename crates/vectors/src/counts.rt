@@ -1,6 +1,9 @@
 // Counts of the cases that were compared, one for each code of a call; under 0, which is no code, those that were wrong.
-ghost use Rattle.std.specs.Prelude.{◌≡◌, ◌%◌, ◌^◌, drop};
+ghost use Rattle.std.specs.Prelude.{◌≡◌, ◌%◌, ◌^◌, drop, IfOk};
 ghost use Rattle.vectors.specs.Counts.{one_more, tallied, total};
+
+use std::io;
+use std::io::Write;
 
 // Counts one case. A code that has no place is counted nowhere.
 pub fn tally(counts: &mut [u64], code: u64, right: bool)
@@ -13,18 +16,18 @@ pub fn tally(counts: &mut [u64], code: u64, right: bool)
 }
 
 // Writes a line for each call that has cases, and a last one for all of them; how many were compared.
-pub fn say_counts(counts: &[u64]) -> u64
-    ensures { result ≡ total (drop 1 counts.now) % 2 ^ 64 }
+pub fn say_counts(counts: &[u64], out: &mut impl Write) -> io::Result<u64>
+    ensures { IfOk result (λ compared. compared ≡ total (drop 1 counts.now) % 2 ^ 64) }
 {
     let mut compared: u64 = 0;
     let mut code: usize = 1;
     while code < counts.len() {
-        say_count(code as u64, counts[code]);
+        say_count(code as u64, counts[code], out)?;
         compared = std::num::wrapping_add_u64(compared, counts[code]);
         code += 1;
     }
-    say_all(compared, wrong_in(counts));
-    compared
+    say_all(compared, wrong_in(counts), out)?;
+    Ok(compared)
 }
 
 fn add_one(counts: &mut [u64], code: u64)
@@ -43,19 +46,13 @@ fn wrong_in(counts: &[u64]) -> u64 {
     counts[0]
 }
 
-fn say_count(code: u64, cases: u64) {
+fn say_count(code: u64, cases: u64, out: &mut impl Write) -> io::Result<()> {
     if cases != 0 {
-        io::write_all(1, b"call ");
-        io::print_decimal(1, code);
-        io::write_all(1, b": ");
-        io::print_decimal(1, cases);
-        io::write_all(1, b"\n");
+        writeln!(out, "call {code}: {cases}")?;
     }
+    Ok(())
 }
 
-fn say_all(compared: u64, wrong: u64) {
-    io::print_decimal(1, compared);
-    io::write_all(1, b" compared, ");
-    io::print_decimal(1, wrong);
-    io::write_all(1, b" wrong\n");
+fn say_all(compared: u64, wrong: u64, out: &mut impl Write) -> io::Result<()> {
+    writeln!(out, "{compared} compared, {wrong} wrong")
 }

@@ -1,13 +1,16 @@
 // Lines of decimal integers, as the test vectors have them, read at a place. Every place is taken: past the end of the text there is nothing.
+#![tactic(auto)]
+
 pub mod asked;
 pub mod counts;
+pub mod input;
 pub mod rooms;
 pub mod told;
 
 ghost use Rattle.std.specs.Prelude.{◌≡◌, ◌+◌, ◌-◌, ◌*◌, ◌<◌, ◌≤◌, min, length, drop};
 ghost use Rattle.vectors.specs.Text.{largest, is_digit, is_minus, magnitude_of, end_of, integer_at, line_after, line_ended};
 
-#[derive(Drop)]
+#[derive(Clone, Copy)]
 pub struct Integer {
     pub negative: bool,
     pub magnitude: u64,
@@ -66,7 +69,7 @@ fn minus_at(text: &[u8], at: usize) -> bool
 }
 
 // A number without a sign.
-#[derive(Drop)]
+#[derive(Clone, Copy)]
 struct Digits {
     magnitude: u64,
     next: usize,

@@ -2,13 +2,13 @@
 ghost use Rattle.std.specs.Prelude.{◌≡◌, ◌+◌, ◌%◌, ◌^◌, min, ◌&&◌, map, length, if◌then◌else◌, ◌==◌, nat_le, nat_lt};
 ghost use Rattle.std.proofs.Common.{of_z};
 ghost use Rattle.std.specs.Int.{w64};
-ghost use Rattle.vectors.specs.Rooms.{bits_of, place_in, wanted, byte_at, cell_at, word_at, coefficient_at, list_of, list_at, wiped as wipedBy, compared};
+ghost use Rattle.vectors.specs.Rooms.{bits_of, place_in, wanted, byte_at, cell_at, word_at, coefficient_at, list_of, list_at, wiped as wiped_by, compared};
 
 use crate::{Integer, integer_at};
 use numbers::signed::{from_bits, to_bits};
 
 // What a slice holds: `count` integers that stand at `at` in the text, then zeros up to element `zeros`, and then, in element j, 7 + j % 5.
-#[derive(Drop)]
+#[derive(Clone, Copy)]
 pub struct Contents {
     pub at: usize,
     pub count: u64,
@@ -16,14 +16,14 @@ pub struct Contents {
 }
 
 // Whether a slice has all the integers and holds what it should, and the place after them.
-#[derive(Drop)]
+#[derive(Clone, Copy)]
 pub struct Compared {
     pub right: bool,
     pub next: usize,
 }
 
 // An element of the contents, and the place of the next integer.
-#[derive(Drop)]
+#[derive(Clone, Copy)]
 struct Wanted {
     bits: u64,
     next: usize,
@@ -43,7 +43,7 @@ pub fn list_at(text: &[u8], at: usize) -> Contents
 
 // Zeros, and after them what a lent element holds before a call.
 pub fn wiped(zeros: u64) -> Contents
-    ensures { result ≡ wipedBy zeros }
+    ensures { result ≡ wiped_by zeros }
 {
     Contents {
         at: 0,

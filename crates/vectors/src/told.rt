@@ -7,7 +7,7 @@ use crate::is_line_end;
 use crate::rooms::{Compared, Contents, are_words, at_most, list_at};
 
 // The first `count` of the number and three values.
-#[derive(Drop)]
+#[derive(Clone, Copy)]
 pub struct Told {
     pub count: u64,
     pub number: u64,
