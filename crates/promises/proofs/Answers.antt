@@ -1,6 +1,6 @@
 -- The kinds of answer: each is made of what was refused, if anything, and a value, and its number is that of what was refused.
 --   Kind A            == how an answer is made of what was refused, its number, and that law
---   ..-kind           for each kind of answer
+--   .._kind           for each kind of answer
 --   told_first        so its number is that of the first rule that holds
 --   told_after        and it tells what a lent slice holds
 -- Assumes nothing.
@@ -9,7 +9,6 @@ use mathlib.Core.Bool.{Bool}
 use mathlib.Core.List.{List}
 use mathlib.Core.Option.{Option, none, some}
 use Prim.Native.Nat.{ℕ, Ordering}
-use native.Mathlib.Omega.{arith}
 use lib.IntN.{ℤ}
 use Rattle.monomials.specs.declared.refusal.Refusal.{Refusal}
 use Rattle.monomials.specs.declared.divmask.DivMask.{DivMask}
@@ -51,34 +50,34 @@ pub told_after : {A B : Type 0} (k : Kind A) (o : Option Refusal) {a : A} {w x y
 told_after k o {x = x} {y = y} p q = rw (q, p, k.law o) (after_status o x y)
 
 abbrev pub number_kind : ℕ → Kind NumberAnswer
-number_kind x = record { answer = λ o. number_answer o x; number = λ a. number_in (of_number a); law = λ o. elim o [ none ↦ refl | some r ↦ refl ] }
+number_kind x = record { answer = λ o. number_answer o x; number = λ a. number_in (of_number a); law = λ o. elim o as (λ v. number_in (of_number (number_answer v x)) ≡ status v) [ none ↦ refl | some r ↦ refl ] }
 
 abbrev pub write_kind : Kind WriteAnswer
-write_kind = record { answer = λ o. write_answer o; number = λ a. number_in (of_write a); law = λ o. elim o [ none ↦ refl | some r ↦ refl ] }
+write_kind = record { answer = λ o. write_answer o; number = λ a. number_in (of_write a); law = λ o. elim o as (λ v. number_in (of_write (write_answer v)) ≡ status v) [ none ↦ refl | some r ↦ refl ] }
 
 abbrev pub test_kind : Bool → Kind TestAnswer
-test_kind b = record { answer = λ o. test_answer o b; number = λ a. number_in (of_test a); law = λ o. elim o [ none ↦ refl | some r ↦ refl ] }
+test_kind b = record { answer = λ o. test_answer o b; number = λ a. number_in (of_test a); law = λ o. elim o as (λ v. number_in (of_test (test_answer v b)) ≡ status v) [ none ↦ refl | some r ↦ refl ] }
 
 abbrev pub order_kind : Ordering → Kind OrderAnswer
-order_kind c = record { answer = λ o. order_answer o c; number = λ a. number_in (of_order a); law = λ o. elim o [ none ↦ refl | some r ↦ refl ] }
+order_kind c = record { answer = λ o. order_answer o c; number = λ a. number_in (of_order a); law = λ o. elim o as (λ v. number_in (of_order (order_answer v c)) ≡ status v) [ none ↦ refl | some r ↦ refl ] }
 
 abbrev pub mask_kind : DivMask → Kind MaskAnswer
-mask_kind m = record { answer = λ o. judged o m; number = λ a. number_in (of_mask a); law = λ o. elim o [ none ↦ refl | some r ↦ refl ] }
+mask_kind m = record { answer = λ o. judged o m; number = λ a. number_in (of_mask a); law = λ o. elim o as (λ v. number_in (of_mask (judged v m)) ≡ status v) [ none ↦ refl | some r ↦ refl ] }
 
 abbrev pub signed_kind : ℤ → Kind SignedAnswer
-signed_kind z = record { answer = λ o. signed_answer o z; number = λ a. number_in (of_signed a); law = λ o. elim o [ none ↦ refl | some r ↦ refl ] }
+signed_kind z = record { answer = λ o. signed_answer o z; number = λ a. number_in (of_signed a); law = λ o. elim o as (λ v. number_in (of_signed (signed_answer v z)) ≡ status v) [ none ↦ refl | some r ↦ refl ] }
 
 abbrev pub length_kind : ℕ → Kind LengthAnswer
-length_kind k = record { answer = λ o. length_answer o k; number = λ a. number_in (of_length a); law = λ o. elim o [ none ↦ refl | some r ↦ refl ] }
+length_kind k = record { answer = λ o. length_answer o k; number = λ a. number_in (of_length a); law = λ o. elim o as (λ v. number_in (of_length (length_answer v k)) ≡ status v) [ none ↦ refl | some r ↦ refl ] }
 
 abbrev pub dimension_kind : ℕ → List (List ℕ) → Kind DimensionAnswer
-dimension_kind n L = record { answer = λ o. dimension_is o n L; number = λ a. number_in (of_dimension a); law = λ o. elim o [ none ↦ refl | some r ↦ refl ] }
+dimension_kind n L = record { answer = λ o. dimension_is o n L; number = λ a. number_in (of_dimension a); law = λ o. elim o as (λ v. number_in (of_dimension (dimension_is v n L)) ≡ status v) [ none ↦ refl | some r ↦ refl ] }
 
 abbrev pub size_kind : ℕ → Kind SizeAnswer
-size_kind x = record { answer = λ o. size_answer o x; number = λ a. number_in (of_size a); law = λ o. elim o [ none ↦ refl | some r ↦ refl ] }
+size_kind x = record { answer = λ o. size_answer o x; number = λ a. number_in (of_size a); law = λ o. elim o as (λ v. number_in (of_size (size_answer v x)) ≡ status v) [ none ↦ refl | some r ↦ refl ] }
 
 abbrev pub check_kind : Kind CheckAnswer
-check_kind = record { answer = λ o. check_answer o; number = λ a. number_in (of_check a 0); law = λ o. elim o [ none ↦ refl | some r ↦ refl ] }
+check_kind = record { answer = λ o. check_answer o; number = λ a. number_in (of_check a 0); law = λ o. elim o as (λ v. number_in (of_check (check_answer v) 0) ≡ status v) [ none ↦ refl | some r ↦ refl ] }
 
 abbrev pub copy_kind : ℕ → ℕ → Kind CopyAnswer
-copy_kind n m = record { answer = λ o. shape_answer o n m; number = λ a. number_in (of_copy a); law = λ o. elim o [ none ↦ refl | some r ↦ refl ] }
+copy_kind n m = record { answer = λ o. shape_answer o n m; number = λ a. number_in (of_copy a); law = λ o. elim o as (λ v. number_in (of_copy (shape_answer v n m)) ≡ status v) [ none ↦ refl | some r ↦ refl ] }

@@ -20,7 +20,7 @@ use Rattle.laws.specs.Monomial.{degree, exponent, product, divides}
 use Rattle.laws.specs.Coefficients.{coefficient}
 use Rattle.laws.specs.Dimension.{least_power, finite, degree_bound}
 use Rattle.laws.specs.Ideal.{In, unit_in}
-use Rattle.laws.proofs.Monomial.{or_right, not-true as if_not}
+use Rattle.laws.proofs.Monomial.{or_right, not_true as if_not}
 use Rattle.laws.proofs.Dimension.{finite_power}
 use Rattle.laws.proofs.Ideal.{unit_member}
 use Rattle.numbers.specs.Dimension.{no_dimension}
@@ -58,8 +58,8 @@ pub first_exactly : {rs : List Rule} {j : ℕ} → First rs j → (k : ℕ) → 
 first_exactly {rs} {j} p k = (λ e. rw e at p, λ q. first_unique rs j k p.decided q.decided)
 
 -- 2, where check 1 passes and check 2 does not
-pub too_many_lem : {n s k : ℕ} {rs : List Rule} → First ((255 < n, 1) ∷ (60 < s, 2) ∷ rs) k → n ≤ 255 → 60 < s → k ≡ 2
-too_many_lem f w m = (first_exactly f 2).1 (record { decided = inr (λ h. omega arith, inl (m, refl)) })
+pub too_many : {n s k : ℕ} {rs : List Rule} → First ((255 < n, 1) ∷ (60 < s, 2) ∷ rs) k → n ≤ 255 → 60 < s → k ≡ 2
+too_many f w m = (first_exactly f 2).1 (record { decided = inr (λ h. omega arith, inl (m, refl)) })
 
 -- tests and conditions
 

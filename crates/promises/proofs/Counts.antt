@@ -60,14 +60,14 @@ use Rattle.numbers.specs.declared.hf_at.SignedAnswer.{SignedAnswer}
 use Rattle.numbers.specs.declared.numerator.LengthOutcome.{LengthOutcome}
 use Rattle.numbers.specs.declared.numerator.LengthAnswer.{LengthAnswer}
 use Rattle.numbers.proofs.SignedValue.{hilbert_exact}
-use Rattle.numbers.proofs.numerator.hilbert_numerator.Reads as hilbert_numerator
-use Rattle.numbers.proofs.update.add_generators.Reads as add_generators
-use Rattle.numbers.proofs.hf_at.hf_at.Reads as hf_at
-use Rattle.numbers.proofs.dimension.quotient_dimension.Reads as quotient_dimension
+use Rattle.numbers.proofs.numerator.hilbert_numerator.Reads as hilbert_numerator_call
+use Rattle.numbers.proofs.update.add_generators.Reads as add_generators_call
+use Rattle.numbers.proofs.hf_at.hf_at.Reads as hf_at_call
+use Rattle.numbers.proofs.dimension.quotient_dimension.Reads as quotient_dimension_call
 use Rattle.records.specs.Answer.{answer_of}
 use Rattle.records.specs.Host.{own_cells, own_coefficients, own_words, host_checks}
-use Rattle.records.proofs.host.purlthicket_dim.Reads as purlthicket_dim
-use Rattle.promises.specs.Promise.{Slice, ◌⨾◌, Signed64}
+use Rattle.records.proofs.host.purlthicket_dim.Reads as purlthicket_dim_call
+use Rattle.promises.specs.Promise.{Slice, MutSlice, ◌⨾◌, Signed64}
 use Rattle.promises.proofs.Checks.{passes, done_none}
 use Rattle.promises.proofs.Given.{numerator_done, dimension_done}
 use Rattle.promises.proofs.Refusals.{purlthicket_dim}
@@ -96,8 +96,8 @@ counted s t a b cs e =
     eqb-true a b (not-false (eqb a b) (passes (not (eqb a b)) Cells cs many.1).0)
 
 -- A list within the limits, with the rooms as asked, is not refused.
-pub numerator_given : (κs : Lfts 4) (n s : ℕ) (cells room : Slice ℕ) (first second : Slice ℤ) (r : LengthAnswer) (room' : Slice ℕ) (first' second' : Slice ℤ)
-    → hilbert_numerator.Post κs (n ⨾ s ⨾ cells ⨾ room ⨾ first ⨾ second ⨾ tt) r (n ⨾ s ⨾ cells ⨾ room' ⨾ first' ⨾ second' ⨾ tt)
+pub numerator_given : (κs : Lfts 4) (n s : ℕ) (cells : Slice ℕ) (room : MutSlice ℕ) (first second : MutSlice ℤ) (r : LengthAnswer) (room' : MutSlice ℕ) (first' second' : MutSlice ℤ)
+    → hilbert_numerator_call.Post κs (n ⨾ s ⨾ cells ⨾ room ⨾ first ⨾ second ⨾ tt) r (n ⨾ s ⨾ cells ⨾ room' ⨾ first' ⨾ second' ⨾ tt)
     → n ≤ 255 → s ≤ 60 → length cells.now ≡ s * n
     → cells_asked n (listed n s cells.now) ≤ length room.now
     → coefficients_asked (listed n s cells.now) ≤ length first.now
@@ -107,8 +107,8 @@ numerator_given κs n s cells room first second r room' first' second' outcome w
     let k = length (numerator (listed n s cells.now)) in
     (k, ap (λ (y : LengthAnswer). y.outcome) outcome.0 ∙ ap (λ (o : Option Refusal). (length_answer o k).outcome) (numerator_done n s cells.now room.now first.now second.now w m i c a b))
 
-module _ (κs : Lfts 4) (n s : ℕ) (cells room : Slice ℕ) (first second : Slice ℤ) (r : LengthAnswer) (room' : Slice ℕ) (first' second' : Slice ℤ)
-    (outcome : hilbert_numerator.Post κs (n ⨾ s ⨾ cells ⨾ room ⨾ first ⨾ second ⨾ tt) r (n ⨾ s ⨾ cells ⨾ room' ⨾ first' ⨾ second' ⨾ tt))
+module _ (κs : Lfts 4) (n s : ℕ) (cells : Slice ℕ) (room : MutSlice ℕ) (first second : MutSlice ℤ) (r : LengthAnswer) (room' : MutSlice ℕ) (first' second' : MutSlice ℤ)
+    (outcome : hilbert_numerator_call.Post κs (n ⨾ s ⨾ cells ⨾ room ⨾ first ⨾ second ⨾ tt) r (n ⨾ s ⨾ cells ⨾ room' ⨾ first' ⨾ second' ⨾ tt))
     (k : ℕ) (answer : r.outcome ≡ LengthOutcome.Value k) where
   there : (length (numerator (listed n s cells.now)) ≡ k) × (take k first'.now ≡ numerator (listed n s cells.now))
   there =
@@ -144,9 +144,9 @@ update_right n G L K w h =
     ∙ sym (update_coefficient N L K i)
     ∙ ap (λ (p : List ℤ). coefficient p i) (update_direct L K))
 
-module _ (κs : Lfts 6) (n : ℕ) (given : Slice ℤ) (s0 : ℕ) (existing : Slice ℕ) (s1 : ℕ) (added room : Slice ℕ) (first second : Slice ℤ) (r : LengthAnswer)
-    (room' : Slice ℕ) (first' second' : Slice ℤ)
-    (outcome : add_generators.Post κs (n ⨾ given ⨾ s0 ⨾ existing ⨾ s1 ⨾ added ⨾ room ⨾ first ⨾ second ⨾ tt) r (n ⨾ given ⨾ s0 ⨾ existing ⨾ s1 ⨾ added ⨾ room' ⨾ first' ⨾ second' ⨾ tt))
+module _ (κs : Lfts 6) (n : ℕ) (given : Slice ℤ) (s0 : ℕ) (existing : Slice ℕ) (s1 : ℕ) (added : Slice ℕ) (room : MutSlice ℕ) (first second : MutSlice ℤ) (r : LengthAnswer)
+    (room' : MutSlice ℕ) (first' second' : MutSlice ℤ)
+    (outcome : add_generators_call.Post κs (n ⨾ given ⨾ s0 ⨾ existing ⨾ s1 ⨾ added ⨾ room ⨾ first ⨾ second ⨾ tt) r (n ⨾ given ⨾ s0 ⨾ existing ⨾ s1 ⨾ added ⨾ room' ⨾ first' ⨾ second' ⨾ tt))
     (k : ℕ) (answer : r.outcome ≡ LengthOutcome.Value k) where
   updated : let U = update given.now (listed n s0 existing.now) (listed n s1 added.now) in (length U ≡ k) × (take k first'.now ≡ U) × (length existing.now ≡ s0 * n)
   updated =
@@ -178,8 +178,8 @@ module _ (κs : Lfts 6) (n : ℕ) (given : Slice ℤ) (s0 : ℕ) (existing : Sli
 
   -- and the coefficients are those that the numerator's call gives for both lists together.
   pub update_direct_call : ((d : ℕ) → hilbert given.now n d ≡ pos (HF (listed n s0 existing.now) n d))
-      → (λs : Lfts 4) (cells space : Slice ℕ) (p q : Slice ℤ) (a : LengthAnswer) (space' : Slice ℕ) (p' q' : Slice ℤ)
-      → hilbert_numerator.Post λs (n ⨾ s0 + s1 ⨾ cells ⨾ space ⨾ p ⨾ q ⨾ tt) a (n ⨾ s0 + s1 ⨾ cells ⨾ space' ⨾ p' ⨾ q' ⨾ tt)
+      → (λs : Lfts 4) (cells : Slice ℕ) (space : MutSlice ℕ) (p q : MutSlice ℤ) (a : LengthAnswer) (space' : MutSlice ℕ) (p' q' : MutSlice ℤ)
+      → hilbert_numerator_call.Post λs (n ⨾ s0 + s1 ⨾ cells ⨾ space ⨾ p ⨾ q ⨾ tt) a (n ⨾ s0 + s1 ⨾ cells ⨾ space' ⨾ p' ⨾ q' ⨾ tt)
       → cells.now ≡ existing.now ++ added.now → (j : ℕ) → a.outcome ≡ LengthOutcome.Value j
       → (k ≡ j) × (take k first'.now ≡ take j p'.now)
   update_direct_call h λs cells space p q a space' p' q' direct joined j e =
@@ -202,8 +202,8 @@ last_passes a b c t e =
     let high = passes b Degree ((c, SumRoom) ∷ (t, Value) ∷ []) wide.1 in
     (passes t Value [] (passes c SumRoom ((t, Value) ∷ []) high.1).1).0
 
-module _ (κs : Lfts 2) (n : ℕ) (given : Slice ℤ) (d : ℕ) (sums : Slice ℕ) (r : SignedAnswer) (sums' : Slice ℕ)
-    (outcome : hf_at.Post κs (n ⨾ given ⨾ d ⨾ sums ⨾ tt) r (n ⨾ given ⨾ d ⨾ sums' ⨾ tt))
+module _ (κs : Lfts 2) (n : ℕ) (given : Slice ℤ) (d : ℕ) (sums : MutSlice ℕ) (r : SignedAnswer) (sums' : MutSlice ℕ)
+    (outcome : hf_at_call.Post κs (n ⨾ given ⨾ d ⨾ sums ⨾ tt) r (n ⨾ given ⨾ d ⨾ sums' ⨾ tt))
     (w : Wide) (answer : r.outcome ≡ SignedOutcome.Value w) where
   -- "`hf_at` takes any coefficient list and answers a signed 128-bit number": the binomial sum.
   pub hf_at_value : Signed64 given.now → signed_value w ≡ hilbert given.now n d
@@ -284,8 +284,8 @@ dimension_there (some r) n L x e = let z : ◌≡◌ {A = ℕ} 0 1 = cc in absur
 
 -- A list within the limits, with a pure power of each variable and the rooms as asked, is not refused; one with a unit, or of width 0, asks
 -- nothing more.
-pub dimension_given : (κs : Lfts 5) (n s : ℕ) (cells room : Slice ℕ) (first second : Slice ℤ) (sums : Slice ℕ) (r : DimensionAnswer) (room' : Slice ℕ) (first' second' : Slice ℤ) (sums' : Slice ℕ)
-    → quotient_dimension.Post κs (n ⨾ s ⨾ cells ⨾ room ⨾ first ⨾ second ⨾ sums ⨾ tt) r (n ⨾ s ⨾ cells ⨾ room' ⨾ first' ⨾ second' ⨾ sums' ⨾ tt)
+pub dimension_given : (κs : Lfts 5) (n s : ℕ) (cells : Slice ℕ) (room : MutSlice ℕ) (first second : MutSlice ℤ) (sums : MutSlice ℕ) (r : DimensionAnswer) (room' : MutSlice ℕ) (first' second' : MutSlice ℤ) (sums' : MutSlice ℕ)
+    → quotient_dimension_call.Post κs (n ⨾ s ⨾ cells ⨾ room ⨾ first ⨾ second ⨾ sums ⨾ tt) r (n ⨾ s ⨾ cells ⨾ room' ⨾ first' ⨾ second' ⨾ sums' ⨾ tt)
     → n ≤ 255 → s ≤ 60 → length cells.now ≡ s * n
     → (at_once n (listed n s cells.now) ≡ false
     → ((v : ℕ) → v < n → least_power (listed n s cells.now) v ≢ 0)
@@ -298,16 +298,16 @@ pub dimension_given : (κs : Lfts 5) (n s : ℕ) (cells room : Slice ℕ) (first
     → (x : DimensionValue) × (r.outcome ≡ DimensionOutcome.Value x)
 dimension_given κs n s cells room first second sums r room' first' second' sums' outcome w m i enough =
     let L : List (List ℕ) = listed n s cells.now in
-    let none-refused = dimension_done n s cells.now room.now first.now second.now sums.now w m i
+    let none_refused = dimension_done n s cells.now room.now first.now second.now sums.now w m i
     (λ once.
     let (p, b, c, d, e, f, g) = enough once in
     (bounded_by 65536 n L (power_finite n L p) b, c, d, e, f, g)) in (
       record { dimension = wide (dimension n L); top = top_degree n L },
-      ap (λ (y : DimensionAnswer). y.outcome) outcome.0 ∙ ap (λ (o : Option Refusal). (dimension_is o n L).outcome) none-refused,
+      ap (λ (y : DimensionAnswer). y.outcome) outcome.0 ∙ ap (λ (o : Option Refusal). (dimension_is o n L).outcome) none_refused,
     )
 
-module _ (κs : Lfts 5) (n s : ℕ) (cells room : Slice ℕ) (first second : Slice ℤ) (sums : Slice ℕ) (r : DimensionAnswer) (room' : Slice ℕ) (first' second' : Slice ℤ) (sums' : Slice ℕ)
-    (outcome : quotient_dimension.Post κs (n ⨾ s ⨾ cells ⨾ room ⨾ first ⨾ second ⨾ sums ⨾ tt) r (n ⨾ s ⨾ cells ⨾ room' ⨾ first' ⨾ second' ⨾ sums' ⨾ tt))
+module _ (κs : Lfts 5) (n s : ℕ) (cells : Slice ℕ) (room : MutSlice ℕ) (first second : MutSlice ℤ) (sums : MutSlice ℕ) (r : DimensionAnswer) (room' : MutSlice ℕ) (first' second' : MutSlice ℤ) (sums' : MutSlice ℕ)
+    (outcome : quotient_dimension_call.Post κs (n ⨾ s ⨾ cells ⨾ room ⨾ first ⨾ second ⨾ sums ⨾ tt) r (n ⨾ s ⨾ cells ⨾ room' ⨾ first' ⨾ second' ⨾ sums' ⨾ tt))
     (x : DimensionValue) (answer : r.outcome ≡ DimensionOutcome.Value x) where
   given_dimension : Finite n (listed n s cells.now) × (wide (dimension n (listed n s cells.now)) ≡ x.dimension) × (top_degree n (listed n s cells.now) ≡ x.top)
   given_dimension =
@@ -334,7 +334,7 @@ module _ (κs : Lfts 5) (n s : ℕ) (cells room : Slice ℕ) (first second : Sli
   dimension_top = sym given_dimension.2
 
 -- The host's answer record carries that number, for what the ideal record lists.
-module _ (κs : Lfts 2) (rec out : Slice ℕ) (r : ℕ) (out' : Slice ℕ) (outcome : purlthicket_dim.Post κs (rec ⨾ out ⨾ tt) r (rec ⨾ out' ⨾ tt)) (done : r ≡ 0) where
+module _ (κs : Lfts 2) (rec : Slice ℕ) (out : MutSlice ℕ) (r : ℕ) (out' : MutSlice ℕ) (outcome : purlthicket_dim_call.Post κs (rec ⨾ out ⨾ tt) r (rec ⨾ out' ⨾ tt)) (done : r ≡ 0) where
   pub host_counts : let n = width_in rec.now in let L = list_in rec.now in
       Standards n L (standards n L) × (out'.now ≡ answer_record 0 (length (standards n L)) (top_degree n L) ++ drop 26 out.now)
   host_counts =

@@ -1,6 +1,6 @@
 -- Any two outcomes that a contract allows are equal, for every public call: the answer, what each lent slice holds afterwards, and the part that
 -- is handed back. Each law stands in the call's own crate, over the contract as the source states it; here it has the name of the call, as
--- crate-module-function. (The library `vectors` serves the replay programs alone, and has its laws beside it.)
+-- crate_module_function. (The library `vectors` serves the replay programs alone, and has its laws beside it.)
 -- Assumes nothing.
 
 -- monomials

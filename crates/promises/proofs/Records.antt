@@ -15,7 +15,7 @@ use native.Mathlib.Omega.{arith}
 use lib.Dec.{leb, ltb, eqb}
 use lib.ListN.{length, take, drop}
 use lib.Seq.{take_at}
-use borrow.Author.Tests.{leb-true, le-leb, ltb-false, le-ltb, eqb-true, eq-eqb, not-false}
+use borrow.Author.Tests.{leb-true, le-leb, ltb-false, eqb-true, eq-eqb, not-false}
 use contract.Lifetimes.{Lfts}
 use Rattle.laws.specs.Count.{equal}
 use Rattle.laws.specs.Ideal.{listed, Width, Same}
@@ -31,17 +31,17 @@ use Rattle.monomials.specs.Refusal.{number, refusal, after}
 use Rattle.monomials.specs.declared.refusal.Refusal.{Refusal}
 use Rattle.monomials.specs.declared.refusal.Refusal.TheVariants.{Width as TooWide, Count, Cells, Place, Record, Output}
 use Rattle.records.specs.Host.{status}
-use Rattle.records.specs.Ideal.{size_answer, record_of, write_checks, write_answer, write_bytes, place_checks, copy_checks}
+use Rattle.records.specs.Ideal.{size_answer, write_checks, write_answer, write_bytes, place_checks, copy_checks}
 use Rattle.records.specs.declared.ideal.SizeOutcome.{SizeOutcome}
 use Rattle.records.specs.declared.ideal.SizeAnswer.{SizeAnswer}
 use Rattle.records.specs.declared.ideal.CheckAnswer.{CheckAnswer}
 use Rattle.records.specs.declared.ideal.CopyAnswer.{CopyAnswer}
-use Rattle.records.proofs.ideal.write_record.Reads as write_record
-use Rattle.records.proofs.ideal.check_place.Reads as check_place
-use Rattle.records.proofs.ideal.copy_record.Reads as copy_record
+use Rattle.records.proofs.ideal.write_record.Reads as write_record_call
+use Rattle.records.proofs.ideal.check_place.Reads as check_place_call
+use Rattle.records.proofs.ideal.copy_record.Reads as copy_record_call
 use Rattle.bridge.specs.Told.{number_in}
 use Rattle.bridge.specs.Records.{of_check, of_copy}
-use Rattle.promises.specs.Promise.{Slice, ◌⨾◌, Below}
+use Rattle.promises.specs.Promise.{Slice, MutSlice, ◌⨾◌, Below}
 use Rattle.promises.proofs.Checks.{passes}
 use Rattle.promises.proofs.Given.{writes}
 use Rattle.promises.proofs.Answers.{check_kind, copy_kind}
@@ -65,8 +65,8 @@ accepted n s cells out e =
     let rest = passes (not (eqb (length cells) (s * n))) Cells (drop 3 cs) many.1 in
     (ltb-false 255 n wide.0, ltb-false 60 s many.0, eqb-true (length cells) (s * n) (not-false (eqb (length cells) (s * n)) rest.0))
 
-module _ (κs : Lfts 2) (n s : ℕ) (cells out : Slice ℕ) (r : SizeAnswer) (out' : Slice ℕ)
-    (outcome : write_record.Post κs (n ⨾ s ⨾ cells ⨾ out ⨾ tt) r (n ⨾ s ⨾ cells ⨾ out' ⨾ tt))
+module _ (κs : Lfts 2) (n s : ℕ) (cells : Slice ℕ) (out : MutSlice ℕ) (r : SizeAnswer) (out' : MutSlice ℕ)
+    (outcome : write_record_call.Post κs (n ⨾ s ⨾ cells ⨾ out ⨾ tt) r (n ⨾ s ⨾ cells ⨾ out' ⨾ tt))
     (k : ℕ) (answer : r.outcome ≡ SizeOutcome.Value k) where
   written : (take k out'.now ≡ ideal_record n (listed n s cells.now)) × (length (ideal_record n (listed n s cells.now)) ≡ k) × Width n (listed n s cells.now) × (s ≤ 60)
   written =
@@ -91,9 +91,9 @@ module _ (κs : Lfts 2) (n s : ℕ) (cells out : Slice ℕ) (r : SizeAnswer) (ou
       (minimal_same n L, minimal_falling L, λ K w h. minimal_shortest n L K written.2 w h)
 
 -- two accepted lists
-module _ (κs λs : Lfts 2) (n s t : ℕ) (cells out cells₂ out₂ : Slice ℕ) (r r₂ : SizeAnswer) (out' out₂' : Slice ℕ)
-    (outcome : write_record.Post κs (n ⨾ s ⨾ cells ⨾ out ⨾ tt) r (n ⨾ s ⨾ cells ⨾ out' ⨾ tt))
-    (outcome₂ : write_record.Post λs (n ⨾ t ⨾ cells₂ ⨾ out₂ ⨾ tt) r₂ (n ⨾ t ⨾ cells₂ ⨾ out₂' ⨾ tt)) where
+module _ (κs λs : Lfts 2) (n s t : ℕ) (cells : Slice ℕ) (out : MutSlice ℕ) (cells₂ : Slice ℕ) (out₂ : MutSlice ℕ) (r r₂ : SizeAnswer) (out' out₂' : MutSlice ℕ)
+    (outcome : write_record_call.Post κs (n ⨾ s ⨾ cells ⨾ out ⨾ tt) r (n ⨾ s ⨾ cells ⨾ out' ⨾ tt))
+    (outcome₂ : write_record_call.Post λs (n ⨾ t ⨾ cells₂ ⨾ out₂ ⨾ tt) r₂ (n ⨾ t ⨾ cells₂ ⨾ out₂' ⨾ tt)) where
   -- "Two accepted lists over the same number of variables get the same record bytes exactly when they have the same multiples."
   pub same_bytes : (j k : ℕ) → r.outcome ≡ SizeOutcome.Value j → r₂.outcome ≡ SizeOutcome.Value k → Below 65536 cells.now → Below 65536 cells₂.now
       → (take j out'.now ≡ take k out₂'.now) ↔ Same n (listed n s cells.now) (listed n t cells₂.now)
@@ -110,17 +110,17 @@ not_twelve true false q h = (λ g. refl, λ g e. omega arith)
 not_twelve false t q h = (λ g. absurd (g refl), λ g. absurd (false≢true g))
 
 -- What was written is taken.
-module _ (κs : Lfts 2) (n s : ℕ) (cells out : Slice ℕ) (r : SizeAnswer) (out' : Slice ℕ)
-    (outcome : write_record.Post κs (n ⨾ s ⨾ cells ⨾ out ⨾ tt) r (n ⨾ s ⨾ cells ⨾ out' ⨾ tt))
+module _ (κs : Lfts 2) (n s : ℕ) (cells : Slice ℕ) (out : MutSlice ℕ) (r : SizeAnswer) (out' : MutSlice ℕ)
+    (outcome : write_record_call.Post κs (n ⨾ s ⨾ cells ⨾ out ⨾ tt) r (n ⨾ s ⨾ cells ⨾ out' ⨾ tt))
     (k : ℕ) (answer : r.outcome ≡ SizeOutcome.Value k) (fit : Below 65536 cells.now) where
   is_record_lem : is_record 60 (take k out'.now) ≡ true
   is_record_lem =
       let L : List (List ℕ) = listed n s cells.now in
       let (bytes, size, w, c) = written κs n s cells out r out' outcome k answer in
       let few : length (minimal L) ≤ 60 = omega (arith, minimal_shortest n L L w w (same_refl n L), listed_count n s cells.now) in
-      rw bytes (record_is 60 n L w (listed_small n s cells.now fit) few)
+      ap (is_record 60) bytes ∙ record_is 60 n L w (listed_small n s cells.now fit) few
 
-  pub written_taken : (λs : Lfts 1) (rec : Slice ℕ) (i : ℕ) (c : CheckAnswer) → check_place.Post λs (rec ⨾ i ⨾ tt) c (rec ⨾ i ⨾ tt)
+  pub written_taken : (λs : Lfts 1) (rec : Slice ℕ) (i : ℕ) (c : CheckAnswer) → check_place_call.Post λs (rec ⨾ i ⨾ tt) c (rec ⨾ i ⨾ tt)
       → rec.now ≡ take k out'.now → number_in (of_check c 0) ≢ 12
   written_taken λs rec i c p e =
       let cs = place_checks 60 rec.now i in
@@ -168,9 +168,9 @@ module _ (rec out : List ℕ) where
 -- "Bytes are taken as a record exactly when writing out what they list gives those bytes again": of any bytes `rec`, the width, count and
 -- exponents that they list are handed to the writer, with an output that has room for as many bytes; the readers then answer something
 -- other than 12 exactly when the writer answers that size and writes those bytes.
-module _ (κs : Lfts 2) (rec exponents out : Slice ℕ) (w : SizeAnswer) (out' : Slice ℕ)
-    (outcome : write_record.Post κs (width_in rec.now ⨾ count_in rec.now ⨾ exponents ⨾ out ⨾ tt) w (width_in rec.now ⨾ count_in rec.now ⨾ exponents ⨾ out' ⨾ tt))
-    (listed-there : exponents.now ≡ exponents_in rec.now) (room : length rec.now ≤ length out.now) (bytes : Below 256 rec.now) where
+module _ (κs : Lfts 2) (rec exponents : Slice ℕ) (out : MutSlice ℕ) (w : SizeAnswer) (out' : MutSlice ℕ)
+    (outcome : write_record_call.Post κs (width_in rec.now ⨾ count_in rec.now ⨾ exponents ⨾ out ⨾ tt) w (width_in rec.now ⨾ count_in rec.now ⨾ exponents ⨾ out' ⨾ tt))
+    (listed_there : exponents.now ≡ exponents_in rec.now) (room : length rec.now ≤ length out.now) (bytes : Below 256 rec.now) where
   abbrev Again : Type 0
   Again = (w.outcome ≡ SizeOutcome.Value (length rec.now)) × (take (length rec.now) out'.now ≡ rec.now)
 
@@ -179,10 +179,10 @@ module _ (κs : Lfts 2) (rec exponents out : Slice ℕ) (w : SizeAnswer) (out' :
       let n = width_in rec.now in
       let m = count_in rec.now in
       again_iff rec.now out.now w out'.now room bytes
-      (outcome.0 ∙ ap (λ (cells : List ℕ). write_answer 255 60 n m cells out.now) listed-there)
-      (outcome.1 ∙ ap (λ (cells : List ℕ). write_bytes 255 60 n m cells out.now) listed-there)
+      (outcome.0 ∙ ap (λ (cells : List ℕ). write_answer 255 60 n m cells out.now) listed_there)
+      (outcome.1 ∙ ap (λ (cells : List ℕ). write_bytes 255 60 n m cells out.now) listed_there)
 
-  pub place_takes : (λs : Lfts 1) (k : ℕ) (c : CheckAnswer) → check_place.Post λs (rec ⨾ k ⨾ tt) c (rec ⨾ k ⨾ tt)
+  pub place_takes : (λs : Lfts 1) (k : ℕ) (c : CheckAnswer) → check_place_call.Post λs (rec ⨾ k ⨾ tt) c (rec ⨾ k ⨾ tt)
       → (number_in (of_check c 0) ≢ 12)
       ↔ ((w.outcome ≡ SizeOutcome.Value (length rec.now)) × (take (length rec.now) out'.now ≡ rec.now))
   place_takes λs k c p =
@@ -190,7 +190,7 @@ module _ (κs : Lfts 2) (rec exponents out : Slice ℕ) (w : SizeAnswer) (out' :
       let e : number_in (of_check c 0) ≡ status (refusal (place_checks 60 rec.now k)) = ap (λ (a : CheckAnswer). number_in (of_check a 0)) p ∙ check_kind.law (refusal (place_checks 60 rec.now k)) in
       rw e (λ h. record_again_iff.0 (f.0 h), λ h. f.1 (record_again_iff.1 h))
 
-  pub copy_takes : (λs : Lfts 2) (cells : Slice ℕ) (c : CopyAnswer) (cells' : Slice ℕ) → copy_record.Post λs (rec ⨾ cells ⨾ tt) c (rec ⨾ cells' ⨾ tt)
+  pub copy_takes : (λs : Lfts 2) (cells : MutSlice ℕ) (c : CopyAnswer) (cells' : MutSlice ℕ) → copy_record_call.Post λs (rec ⨾ cells ⨾ tt) c (rec ⨾ cells' ⨾ tt)
       → (number_in (of_copy c) ≢ 12)
       ↔ ((w.outcome ≡ SizeOutcome.Value (length rec.now)) × (take (length rec.now) out'.now ≡ rec.now))
   copy_takes λs cells c cells' p =

@@ -34,18 +34,18 @@ use Rattle.monomials.specs.declared.monomial.NumberAnswer.{NumberAnswer}
 use Rattle.monomials.specs.declared.monomial.WriteAnswer.{WriteAnswer}
 use Rattle.monomials.specs.declared.monomial.TestAnswer.{TestAnswer}
 use Rattle.monomials.specs.declared.monomial.OrderAnswer.{OrderAnswer}
-use Rattle.monomials.proofs.monomial.total_degree.Reads as total_degree
-use Rattle.monomials.proofs.monomial.exponent.Reads as exponent_of
-use Rattle.monomials.proofs.monomial.power.Reads as power_of
-use Rattle.monomials.proofs.monomial.product.Reads as product_of
-use Rattle.monomials.proofs.monomial.quotient.Reads as quotient_reads
-use Rattle.monomials.proofs.monomial.lcm.Reads as lcm_of
-use Rattle.monomials.proofs.monomial.gcd.Reads as gcd_of
-use Rattle.monomials.proofs.monomial.divides.Reads as divides_of
-use Rattle.monomials.proofs.monomial.is_coprime.Reads as is_coprime
-use Rattle.monomials.proofs.monomial.cmp_lex.Reads as cmp_lex
-use Rattle.monomials.proofs.monomial.cmp_degrevlex.Reads as cmp_degrevlex
-use Rattle.monomials.proofs.divmask.mask.Reads as mask_reads
+use Rattle.monomials.proofs.monomial.total_degree.Reads as total_degree_call
+use Rattle.monomials.proofs.monomial.exponent.Reads as exponent_call
+use Rattle.monomials.proofs.monomial.power.Reads as power_call
+use Rattle.monomials.proofs.monomial.product.Reads as product_call
+use Rattle.monomials.proofs.monomial.quotient.Reads as quotient_call
+use Rattle.monomials.proofs.monomial.lcm.Reads as lcm_call
+use Rattle.monomials.proofs.monomial.gcd.Reads as gcd_call
+use Rattle.monomials.proofs.monomial.divides.Reads as divides_call
+use Rattle.monomials.proofs.monomial.is_coprime.Reads as is_coprime_call
+use Rattle.monomials.proofs.monomial.cmp_lex.Reads as cmp_lex_call
+use Rattle.monomials.proofs.monomial.cmp_degrevlex.Reads as cmp_degrevlex_call
+use Rattle.monomials.proofs.divmask.mask.Reads as mask_call
 use Rattle.numbers.specs.Dimension.{at_once, bound_checks, room_checks, dimension_checks}
 use Rattle.numbers.specs.Hilbert.{hilbert_checks}
 use Rattle.numbers.specs.Wide.{value}
@@ -55,46 +55,46 @@ use Rattle.numbers.specs.declared.dimension.DimensionAnswer.{DimensionAnswer}
 use Rattle.numbers.specs.declared.hf_at.SignedAnswer.{SignedAnswer}
 use Rattle.numbers.specs.declared.numerator.LengthAnswer.{LengthAnswer}
 use Rattle.numbers.specs.declared.wide.Wide.{Wide}
-use Rattle.numbers.proofs.numerator.hilbert_numerator.Reads as hilbert_numerator
-use Rattle.numbers.proofs.update.add_generators.Reads as add_generators
-use Rattle.numbers.proofs.hf_at.hf_at.Reads as hf_at
-use Rattle.numbers.proofs.dimension.quotient_dimension.Reads as quotient_dimension
+use Rattle.numbers.proofs.numerator.hilbert_numerator.Reads as hilbert_numerator_call
+use Rattle.numbers.proofs.update.add_generators.Reads as add_generators_call
+use Rattle.numbers.proofs.hf_at.hf_at.Reads as hf_at_call
+use Rattle.numbers.proofs.dimension.quotient_dimension.Reads as quotient_dimension_call
 use Rattle.records.specs.Answer.{answer_checks, answer_of}
 use Rattle.records.specs.Host.{own_cells, own_coefficients, own_words, record_checks, host_checks, status}
 use Rattle.records.specs.Ideal.{write_checks as write_record_checks, place_checks, copy_checks}
 use Rattle.records.specs.declared.ideal.SizeAnswer.{SizeAnswer}
 use Rattle.records.specs.declared.ideal.CheckAnswer.{CheckAnswer}
 use Rattle.records.specs.declared.ideal.CopyAnswer.{CopyAnswer}
-use Rattle.records.proofs.ideal.write_record.Reads as write_record
-use Rattle.records.proofs.ideal.check_place.Reads as check_place
-use Rattle.records.proofs.ideal.place.Reads as place_reads
-use Rattle.records.proofs.ideal.copy_record.Reads as copy_record
+use Rattle.records.proofs.ideal.write_record.Reads as write_record_call
+use Rattle.records.proofs.ideal.check_place.Reads as check_place_call
+use Rattle.records.proofs.ideal.place.Reads as place_call
+use Rattle.records.proofs.ideal.copy_record.Reads as copy_record_call
 use Rattle.records.proofs.Statuses.{status_written, status_never}
-use Rattle.records.proofs.answer.write_answer.Reads as write_answer
-use Rattle.records.proofs.host.answer_record.Reads as answer_record
-use Rattle.records.proofs.host.purlthicket_dim.Reads as purlthicket_dim
+use Rattle.records.proofs.answer.write_answer.Reads as write_answer_call
+use Rattle.records.proofs.host.answer_record.Reads as answer_record_call
+use Rattle.records.proofs.host.purlthicket_dim.Reads as purlthicket_dim_call
 use Rattle.bridge.specs.Told.{number_in}
 use Rattle.bridge.specs.Monomials.{of_number, of_write, of_test, of_order, of_mask}
 use Rattle.bridge.specs.Numbers.{of_signed, of_length, of_dimension}
 use Rattle.bridge.specs.Records.{of_size, of_check, of_copy}
-use Rattle.promises.specs.Promise.{Slice, ◌⨾◌, Rule, First, After, Below}
-use Rattle.promises.proofs.Checks.{too_many_lem, cons_first, list_first, early_first, above, reaches, differs, equals, fails, twice, either, product_above, not_divides, coefficient_beyond, unit_in_lem, no_dimension_lem}
+use Rattle.promises.specs.Promise.{Slice, MutSlice, ◌⨾◌, Rule, First, After, Below}
+use Rattle.promises.proofs.Checks.{too_many, cons_first, list_first, early_first, above, reaches, differs, equals, fails, twice, either, product_above, not_divides, coefficient_beyond, unit_in_lem, no_dimension_lem}
 use Rattle.promises.proofs.Means.{rooms_means, write_means, last_means, pair_means, sums_left, host_kept, host_written}
 use Rattle.promises.proofs.Answers.{told_first, told_after, number_kind, write_kind, test_kind, order_kind, mask_kind, signed_kind, length_kind, dimension_kind, size_kind, check_kind, copy_kind}
 
 -- "Monomials: 1, 3, 4, 5, 6, as they apply; the width is the number given, or else the first monomial's length. Masks: 1 only."
 
-pub total_degree : (κs : Lfts 1) (a : Slice ℕ) (r : NumberAnswer) → total_degree.Post κs (a ⨾ tt) r (a ⨾ tt)
+pub total_degree : (κs : Lfts 1) (a : Slice ℕ) (r : NumberAnswer) → total_degree_call.Post κs (a ⨾ tt) r (a ⨾ tt)
     → First ((255 < length a.now, 1) ∷ []) (number_in (of_number r))
 total_degree κs a r p = told_first (number_kind (degree a.now)) (too_wide 255 (length a.now) ∷ []) p (above 255 (length a.now), (refl, tt))
 
-pub exponent_of : (κs : Lfts 1) (a : Slice ℕ) (v : ℕ) (r : NumberAnswer) → exponent_of.Post κs (a ⨾ v ⨾ tt) r (a ⨾ v ⨾ tt)
+pub exponent_of : (κs : Lfts 1) (a : Slice ℕ) (v : ℕ) (r : NumberAnswer) → exponent_call.Post κs (a ⨾ v ⨾ tt) r (a ⨾ v ⨾ tt)
     → First ((255 < length a.now, 1) ∷ (length a.now ≤ v, 4) ∷ []) (number_in (of_number r))
 exponent_of κs a v r p =
     told_first (number_kind (exponent a.now v)) (too_wide 255 (length a.now) ∷ (leb (length a.now) v, Place) ∷ []) p
     (above 255 (length a.now), (refl, (reaches (length a.now) v, (refl, tt))))
 
-pub power_of : (κs : Lfts 1) (n v x : ℕ) (out : Slice ℕ) (r : WriteAnswer) (out' : Slice ℕ) → power_of.Post κs (n ⨾ v ⨾ x ⨾ out ⨾ tt) r (n ⨾ v ⨾ x ⨾ out' ⨾ tt)
+pub power_of : (κs : Lfts 1) (n v x : ℕ) (out : MutSlice ℕ) (r : WriteAnswer) (out' : MutSlice ℕ) → power_call.Post κs (n ⨾ v ⨾ x ⨾ out ⨾ tt) r (n ⨾ v ⨾ x ⨾ out' ⨾ tt)
     → First ((255 < n, 1) ∷ (length out.now ≢ n, 3) ∷ (n ≤ v, 4) ∷ []) (number_in (of_write r))
     × After (number_in (of_write r)) out'.now out.now (power n v x)
 power_of κs n v x out r out' p =
@@ -103,7 +103,7 @@ power_of κs n v x out r out' p =
       told_after write_kind (refusal cs) p.0 p.1,
     )
 
-pub product_of : (κs : Lfts 3) (a b out : Slice ℕ) (r : WriteAnswer) (out' : Slice ℕ) → product_of.Post κs (a ⨾ b ⨾ out ⨾ tt) r (a ⨾ b ⨾ out' ⨾ tt)
+pub product_of : (κs : Lfts 3) (a b : Slice ℕ) (out : MutSlice ℕ) (r : WriteAnswer) (out' : MutSlice ℕ) → product_call.Post κs (a ⨾ b ⨾ out ⨾ tt) r (a ⨾ b ⨾ out' ⨾ tt)
     → First
     ((255 < length a.now, 1) ∷ (length b.now ≢ length a.now, 3) ∷ (length out.now ≢ length a.now, 3)
     ∷ ((v : ℕ) × (65535 < exponent a.now v + exponent b.now v), 5) ∷ [])
@@ -115,7 +115,7 @@ product_of κs a b out r out' p =
       told_after write_kind (refusal cs) p.0 p.1,
     )
 
-pub quotient_of : (κs : Lfts 3) (a b out : Slice ℕ) (r : WriteAnswer) (out' : Slice ℕ) → quotient_reads.Post κs (a ⨾ b ⨾ out ⨾ tt) r (a ⨾ b ⨾ out' ⨾ tt)
+pub quotient_of : (κs : Lfts 3) (a b : Slice ℕ) (out : MutSlice ℕ) (r : WriteAnswer) (out' : MutSlice ℕ) → quotient_call.Post κs (a ⨾ b ⨾ out ⨾ tt) r (a ⨾ b ⨾ out' ⨾ tt)
     → First
     ((255 < length a.now, 1) ∷ (length b.now ≢ length a.now, 3) ∷ (length out.now ≢ length a.now, 3)
     ∷ ((v : ℕ) × (exponent a.now v < exponent b.now v), 6) ∷ [])
@@ -127,18 +127,18 @@ quotient_of κs a b out r out' p =
       told_after write_kind (refusal cs) p.0 p.1,
     )
 
-pub lcm_of_lem : (κs : Lfts 3) (a b out : Slice ℕ) (r : WriteAnswer) (out' : Slice ℕ) → lcm_of.Post κs (a ⨾ b ⨾ out ⨾ tt) r (a ⨾ b ⨾ out' ⨾ tt)
+pub lcm_of : (κs : Lfts 3) (a b : Slice ℕ) (out : MutSlice ℕ) (r : WriteAnswer) (out' : MutSlice ℕ) → lcm_call.Post κs (a ⨾ b ⨾ out ⨾ tt) r (a ⨾ b ⨾ out' ⨾ tt)
     → First
     ((255 < length a.now, 1) ∷ (length b.now ≢ length a.now, 3) ∷ (length out.now ≢ length a.now, 3) ∷ [])
     (number_in (of_write r))
     × After (number_in (of_write r)) out'.now out.now (lcm a.now b.now)
-lcm_of_lem κs a b out r out' p =
+lcm_of κs a b out r out' p =
     let cs = write_checks 255 a.now b.now out.now in (
       told_first write_kind cs p.0 (write_means a.now b.now out.now),
       told_after write_kind (refusal cs) p.0 p.1,
     )
 
-pub gcd_of : (κs : Lfts 3) (a b out : Slice ℕ) (r : WriteAnswer) (out' : Slice ℕ) → gcd_of.Post κs (a ⨾ b ⨾ out ⨾ tt) r (a ⨾ b ⨾ out' ⨾ tt)
+pub gcd_of : (κs : Lfts 3) (a b : Slice ℕ) (out : MutSlice ℕ) (r : WriteAnswer) (out' : MutSlice ℕ) → gcd_call.Post κs (a ⨾ b ⨾ out ⨾ tt) r (a ⨾ b ⨾ out' ⨾ tt)
     → First
     ((255 < length a.now, 1) ∷ (length b.now ≢ length a.now, 3) ∷ (length out.now ≢ length a.now, 3) ∷ [])
     (number_in (of_write r))
@@ -149,32 +149,32 @@ gcd_of κs a b out r out' p =
       told_after write_kind (refusal cs) p.0 p.1,
     )
 
-pub divides_of : (κs : Lfts 2) (a b : Slice ℕ) (r : TestAnswer) → divides_of.Post κs (a ⨾ b ⨾ tt) r (a ⨾ b ⨾ tt)
+pub divides_of : (κs : Lfts 2) (a b : Slice ℕ) (r : TestAnswer) → divides_call.Post κs (a ⨾ b ⨾ tt) r (a ⨾ b ⨾ tt)
     → First ((255 < length a.now, 1) ∷ (length b.now ≢ length a.now, 3) ∷ []) (number_in (of_test r))
 divides_of κs a b r p = told_first (test_kind (divides a.now b.now)) (pair_checks 255 a.now b.now) p (pair_means a.now b.now)
 
-pub is_coprime : (κs : Lfts 2) (a b : Slice ℕ) (r : TestAnswer) → is_coprime.Post κs (a ⨾ b ⨾ tt) r (a ⨾ b ⨾ tt)
+pub is_coprime : (κs : Lfts 2) (a b : Slice ℕ) (r : TestAnswer) → is_coprime_call.Post κs (a ⨾ b ⨾ tt) r (a ⨾ b ⨾ tt)
     → First ((255 < length a.now, 1) ∷ (length b.now ≢ length a.now, 3) ∷ []) (number_in (of_test r))
 is_coprime κs a b r p = told_first (test_kind (coprime a.now b.now)) (pair_checks 255 a.now b.now) p (pair_means a.now b.now)
 
-pub cmp_lex : (κs : Lfts 2) (a b : Slice ℕ) (r : OrderAnswer) → cmp_lex.Post κs (a ⨾ b ⨾ tt) r (a ⨾ b ⨾ tt)
+pub cmp_lex : (κs : Lfts 2) (a b : Slice ℕ) (r : OrderAnswer) → cmp_lex_call.Post κs (a ⨾ b ⨾ tt) r (a ⨾ b ⨾ tt)
     → First ((255 < length a.now, 1) ∷ (length b.now ≢ length a.now, 3) ∷ []) (number_in (of_order r))
 cmp_lex κs a b r p = told_first (order_kind (lex a.now b.now)) (pair_checks 255 a.now b.now) p (pair_means a.now b.now)
 
-pub cmp_degrevlex : (κs : Lfts 2) (a b : Slice ℕ) (r : OrderAnswer) → cmp_degrevlex.Post κs (a ⨾ b ⨾ tt) r (a ⨾ b ⨾ tt)
+pub cmp_degrevlex : (κs : Lfts 2) (a b : Slice ℕ) (r : OrderAnswer) → cmp_degrevlex_call.Post κs (a ⨾ b ⨾ tt) r (a ⨾ b ⨾ tt)
     → First ((255 < length a.now, 1) ∷ (length b.now ≢ length a.now, 3) ∷ []) (number_in (of_order r))
 cmp_degrevlex κs a b r p = told_first (order_kind (degrevlex a.now b.now)) (pair_checks 255 a.now b.now) p (pair_means a.now b.now)
 
 -- exponents past n are ignored, and missing ones are 0: the slice is not looked at
-pub mask_of : (κs : Lfts 1) (n most : ℕ) (exponents : Slice ℕ) (r : MaskAnswer) → mask_reads.Post κs (n ⨾ most ⨾ exponents ⨾ tt) r (n ⨾ most ⨾ exponents ⨾ tt)
+pub mask_of : (κs : Lfts 1) (n most : ℕ) (exponents : Slice ℕ) (r : MaskAnswer) → mask_call.Post κs (n ⨾ most ⨾ exponents ⨾ tt) r (n ⨾ most ⨾ exponents ⨾ tt)
     → First ((255 < n, 1) ∷ []) (number_in (of_mask r))
 mask_of κs n most exponents r p = told_first (mask_kind (of_words (mask n most exponents.now))) (too_wide 255 n ∷ []) p (above 255 n, (refl, tt))
 
 -- "Numerator: 1, 2, 3, 7, 8. Update: 1, 2, 3 existing, 3 new, 15, 7, 8." "After success it is the first coefficient room: the coefficients, then
 -- zeros up to the asked size. Every other room is zero in its asked part; cells beyond are untouched."
 
-module _ (κs : Lfts 4) (n s : ℕ) (cells room : Slice ℕ) (first second : Slice ℤ) (r : LengthAnswer) (room' : Slice ℕ) (first' second' : Slice ℤ)
-    (outcome : hilbert_numerator.Post κs (n ⨾ s ⨾ cells ⨾ room ⨾ first ⨾ second ⨾ tt) r (n ⨾ s ⨾ cells ⨾ room' ⨾ first' ⨾ second' ⨾ tt)) where
+module _ (κs : Lfts 4) (n s : ℕ) (cells : Slice ℕ) (room : MutSlice ℕ) (first second : MutSlice ℤ) (r : LengthAnswer) (room' : MutSlice ℕ) (first' second' : MutSlice ℤ)
+    (outcome : hilbert_numerator_call.Post κs (n ⨾ s ⨾ cells ⨾ room ⨾ first ⨾ second ⨾ tt) r (n ⨾ s ⨾ cells ⨾ room' ⨾ first' ⨾ second' ⨾ tt)) where
   pub hilbert_numerator : let L = listed n s cells.now in let k = number_in (of_length r) in
       First
       ((255 < n, 1)
@@ -197,9 +197,9 @@ module _ (κs : Lfts 4) (n s : ℕ) (cells room : Slice ℕ) (first second : Sli
         told_after (length_kind j) (refusal cs) outcome.0 outcome.1.1.1,
       )
 
-module _ (κs : Lfts 6) (n : ℕ) (given : Slice ℤ) (s0 : ℕ) (existing : Slice ℕ) (s1 : ℕ) (added room : Slice ℕ) (first second : Slice ℤ) (r : LengthAnswer)
-    (room' : Slice ℕ) (first' second' : Slice ℤ)
-    (outcome : add_generators.Post κs (n ⨾ given ⨾ s0 ⨾ existing ⨾ s1 ⨾ added ⨾ room ⨾ first ⨾ second ⨾ tt) r (n ⨾ given ⨾ s0 ⨾ existing ⨾ s1 ⨾ added ⨾ room' ⨾ first' ⨾ second' ⨾ tt)) where
+module _ (κs : Lfts 6) (n : ℕ) (given : Slice ℤ) (s0 : ℕ) (existing : Slice ℕ) (s1 : ℕ) (added : Slice ℕ) (room : MutSlice ℕ) (first second : MutSlice ℤ) (r : LengthAnswer)
+    (room' : MutSlice ℕ) (first' second' : MutSlice ℤ)
+    (outcome : add_generators_call.Post κs (n ⨾ given ⨾ s0 ⨾ existing ⨾ s1 ⨾ added ⨾ room ⨾ first ⨾ second ⨾ tt) r (n ⨾ given ⨾ s0 ⨾ existing ⨾ s1 ⨾ added ⨾ room' ⨾ first' ⨾ second' ⨾ tt)) where
   pub add_generators : let L = listed n s0 existing.now in let K = listed n s1 added.now in let G = given.now in let k = number_in (of_length r) in
       First
       ((255 < n, 1)
@@ -227,8 +227,8 @@ module _ (κs : Lfts 6) (n : ℕ) (given : Slice ℤ) (s0 : ℕ) (existing : Sli
       )
 
 -- "hf_at: 1, 10, 9, 11." The first exception: "the sum room after 11 of `hf_at`, zero in its asked part".
-module _ (κs : Lfts 2) (n : ℕ) (given : Slice ℤ) (d : ℕ) (sums : Slice ℕ) (r : SignedAnswer) (sums' : Slice ℕ)
-    (outcome : hf_at.Post κs (n ⨾ given ⨾ d ⨾ sums ⨾ tt) r (n ⨾ given ⨾ d ⨾ sums' ⨾ tt)) where
+module _ (κs : Lfts 2) (n : ℕ) (given : Slice ℤ) (d : ℕ) (sums : MutSlice ℕ) (r : SignedAnswer) (sums' : MutSlice ℕ)
+    (outcome : hf_at_call.Post κs (n ⨾ given ⨾ d ⨾ sums ⨾ tt) r (n ⨾ given ⨾ d ⨾ sums' ⨾ tt)) where
   pub hf_at : let k = number_in (of_signed r) in
       First
       ((255 < n, 1) ∷ (65536 < d, 10) ∷ (length sums.now < 4 * (d + 1), 9) ∷ (2 ^ 127 ≤ hilbert_size given.now n d, 11) ∷ []) k
@@ -246,8 +246,8 @@ module _ (κs : Lfts 2) (n : ℕ) (given : Slice ℤ) (d : ℕ) (sums : Slice �
       )
 
 -- "Dimension: 1, 2, 3; then unit gives 0; then n = 0 gives 1; then 13, 11, 7, 8, 9." "A dimension with a unit or n = 0 touches no room."
-module _ (κs : Lfts 5) (n s : ℕ) (cells room : Slice ℕ) (first second : Slice ℤ) (sums : Slice ℕ) (r : DimensionAnswer) (room' : Slice ℕ) (first' second' : Slice ℤ) (sums' : Slice ℕ)
-    (outcome : quotient_dimension.Post κs (n ⨾ s ⨾ cells ⨾ room ⨾ first ⨾ second ⨾ sums ⨾ tt) r (n ⨾ s ⨾ cells ⨾ room' ⨾ first' ⨾ second' ⨾ sums' ⨾ tt)) where
+module _ (κs : Lfts 5) (n s : ℕ) (cells : Slice ℕ) (room : MutSlice ℕ) (first second : MutSlice ℤ) (sums : MutSlice ℕ) (r : DimensionAnswer) (room' : MutSlice ℕ) (first' second' : MutSlice ℤ) (sums' : MutSlice ℕ)
+    (outcome : quotient_dimension_call.Post κs (n ⨾ s ⨾ cells ⨾ room ⨾ first ⨾ second ⨾ sums ⨾ tt) r (n ⨾ s ⨾ cells ⨾ room' ⨾ first' ⨾ second' ⨾ sums' ⨾ tt)) where
   pub quotient_dimension : let L = listed n s cells.now in let k = number_in (of_dimension r) in
       First
       ((255 < n, 1)
@@ -280,11 +280,11 @@ module _ (κs : Lfts 5) (n s : ℕ) (cells room : Slice ℕ) (first second : Sli
 
 -- "Record writer: 1, 2, 3, 14. Reader: 12, 4 for a place; 12, 14 for the copy."
 
-module _ (κs : Lfts 2) (n s : ℕ) (cells out : Slice ℕ) (r : SizeAnswer) (out' : Slice ℕ)
-    (outcome : write_record.Post κs (n ⨾ s ⨾ cells ⨾ out ⨾ tt) r (n ⨾ s ⨾ cells ⨾ out' ⨾ tt)) where
-  pub write_record : let record-bytes = ideal_record n (listed n s cells.now) in let k = number_in (of_size r) in
-      First ((255 < n, 1) ∷ (60 < s, 2) ∷ (length cells.now ≢ s * n, 3) ∷ (length out.now < length record-bytes, 14) ∷ []) k
-      × After k out'.now out.now (record-bytes ++ drop (length record-bytes) out.now)
+module _ (κs : Lfts 2) (n s : ℕ) (cells : Slice ℕ) (out : MutSlice ℕ) (r : SizeAnswer) (out' : MutSlice ℕ)
+    (outcome : write_record_call.Post κs (n ⨾ s ⨾ cells ⨾ out ⨾ tt) r (n ⨾ s ⨾ cells ⨾ out' ⨾ tt)) where
+  pub write_record : let record_bytes = ideal_record n (listed n s cells.now) in let k = number_in (of_size r) in
+      First ((255 < n, 1) ∷ (60 < s, 2) ∷ (length cells.now ≢ s * n, 3) ∷ (length out.now < length record_bytes, 14) ∷ []) k
+      × After k out'.now out.now (record_bytes ++ drop (length record_bytes) out.now)
   write_record =
       let cs = write_record_checks 255 60 n s cells.now out.now in
       let j = length (ideal_record n (listed n s cells.now)) in (
@@ -294,15 +294,15 @@ module _ (κs : Lfts 2) (n s : ℕ) (cells out : Slice ℕ) (r : SizeAnswer) (ou
       )
 
 -- what bytes are a record is demand 3's to say
-module _ (κs : Lfts 1) (rec : Slice ℕ) (k : ℕ) (r : CheckAnswer) (outcome : check_place.Post κs (rec ⨾ k ⨾ tt) r (rec ⨾ k ⨾ tt)) where
+module _ (κs : Lfts 1) (rec : Slice ℕ) (k : ℕ) (r : CheckAnswer) (outcome : check_place_call.Post κs (rec ⨾ k ⨾ tt) r (rec ⨾ k ⨾ tt)) where
   pub check_place : First ((is_record 60 rec.now ≡ false, 12) ∷ (count_in rec.now ≤ k, 4) ∷ []) (number_in (of_check r 0))
   check_place = told_first check_kind (place_checks 60 rec.now k) outcome (fails (is_record 60 rec.now), (refl, (reaches (count_in rec.now) k, (refl, tt))))
 
   -- "Where it refuses, the part is empty, and a check call on the same record and place gives the number."
-  pub place : (λs : Lfts 1) (part : Slice ℕ) → place_reads.Post λs (rec ⨾ k ⨾ tt) part (rec ⨾ k ⨾ tt) → After (number_in (of_check r 0)) part.now [] (part_of rec.now k)
+  pub place : (λs : Lfts 1) (part : Slice ℕ) → place_call.Post λs (rec ⨾ k ⨾ tt) part (rec ⨾ k ⨾ tt) → After (number_in (of_check r 0)) part.now [] (part_of rec.now k)
   place λs part p = told_after check_kind (refusal (place_checks 60 rec.now k)) outcome p
 
-module _ (κs : Lfts 2) (rec cells : Slice ℕ) (r : CopyAnswer) (cells' : Slice ℕ) (outcome : copy_record.Post κs (rec ⨾ cells ⨾ tt) r (rec ⨾ cells' ⨾ tt)) where
+module _ (κs : Lfts 2) (rec : Slice ℕ) (cells : MutSlice ℕ) (r : CopyAnswer) (cells' : MutSlice ℕ) (outcome : copy_record_call.Post κs (rec ⨾ cells ⨾ tt) r (rec ⨾ cells' ⨾ tt)) where
   pub copy_record : let k = number_in (of_copy r) in let size = count_in rec.now * width_in rec.now in
       First ((is_record 60 rec.now ≡ false, 12) ∷ (length cells.now < size, 14) ∷ []) k
       × After k cells'.now cells.now (exponents_in rec.now ++ drop size cells.now)
@@ -313,12 +313,12 @@ module _ (κs : Lfts 2) (rec cells : Slice ℕ) (r : CopyAnswer) (cells' : Slice
         told_after (copy_kind (width_in rec.now) (count_in rec.now)) (refusal cs) outcome.0 outcome.1,
       )
 
-module _ (κs : Lfts 1) (code : ℕ) (x : Wide) (top : ℕ) (out : Slice ℕ) (r : CheckAnswer) (out' : Slice ℕ)
-    (outcome : write_answer.Post κs (code ⨾ x ⨾ top ⨾ out ⨾ tt) r (code ⨾ x ⨾ top ⨾ out' ⨾ tt)) where
-  pub write_answer_lem : let k = number_in (of_check r 0) in
+module _ (κs : Lfts 1) (code : ℕ) (x : Wide) (top : ℕ) (out : MutSlice ℕ) (r : CheckAnswer) (out' : MutSlice ℕ)
+    (outcome : write_answer_call.Post κs (code ⨾ x ⨾ top ⨾ out ⨾ tt) r (code ⨾ x ⨾ top ⨾ out' ⨾ tt)) where
+  pub write_answer : let k = number_in (of_check r 0) in
       First ((length out.now < 26, 14) ∷ []) k
       × After k out'.now out.now (answer_of code (value x) top ++ drop 26 out.now)
-  write_answer_lem =
+  write_answer =
       let cs = answer_checks 26 out.now in
       (told_first check_kind cs outcome.0 (above (length out.now) 26, (refl, tt)), told_after check_kind (refusal cs) outcome.0 outcome.1)
 
@@ -352,17 +352,17 @@ host_first rec out =
     (no_dimension_lem 65536 n L, (refl, (reaches (2 ^ 127) (powers_product n L), (refl, (above 16384 (cells_asked n L), (refl, (twice (ltb 4096 (coefficients_asked L)) (above 4096 (coefficients_asked L)), (refl, (above 4096 (2 * (degree_bound n L + 1)), (refl, tt)))))))))))))
 
 -- The second exception: "after 14 nothing is written, after any other refusal the answer record carries it", with both numbers 0.
-module _ (κs : Lfts 2) (rec out : Slice ℕ) (r : CheckAnswer) (out' : Slice ℕ) (outcome : answer_record.Post κs (rec ⨾ out ⨾ tt) r (rec ⨾ out' ⨾ tt)) where
-  pub answer_record_lem : let n = width_in rec.now in let L = list_in rec.now in let k = number_in (of_check r 0) in
+module _ (κs : Lfts 2) (rec : Slice ℕ) (out : MutSlice ℕ) (r : CheckAnswer) (out' : MutSlice ℕ) (outcome : answer_record_call.Post κs (rec ⨾ out ⨾ tt) r (rec ⨾ out' ⨾ tt)) where
+  pub answer_record : let n = width_in rec.now in let L = list_in rec.now in let k = number_in (of_check r 0) in
       First (host_rules rec.now out.now) k
       × (length out.now < 26 → out'.now ≡ out.now)
       × (26 ≤ length out.now → out'.now ≡ answer_of k (dimension n L) (top_degree n L) ++ drop 26 out.now)
-  answer_record_lem =
+  answer_record =
       let cs = host_checks 255 60 65536 26 rec.now out.now in
       let e : number_in (of_check r 0) ≡ status (refusal cs) = ap (λ (a : CheckAnswer). number_in (of_check a 0)) outcome.0 ∙ check_kind.law (refusal cs) in
       rw e (host_first rec.now out.now, host_kept rec.now out.now out'.now (status (refusal cs)) outcome.1, host_written rec.now out.now out'.now (status (refusal cs)) outcome.1)
 
-module _ (κs : Lfts 2) (rec out : Slice ℕ) (r : ℕ) (out' : Slice ℕ) (outcome : purlthicket_dim.Post κs (rec ⨾ out ⨾ tt) r (rec ⨾ out' ⨾ tt)) where
+module _ (κs : Lfts 2) (rec : Slice ℕ) (out : MutSlice ℕ) (r : ℕ) (out' : MutSlice ℕ) (outcome : purlthicket_dim_call.Post κs (rec ⨾ out ⨾ tt) r (rec ⨾ out' ⨾ tt)) where
   pub purlthicket_dim : let n = width_in rec.now in let L = list_in rec.now in
       First (host_rules rec.now out.now) r
       × (length out.now < 26 → out'.now ≡ out.now)
@@ -380,18 +380,18 @@ module _ (κs : Lfts 2) (rec out : Slice ℕ) (r : ℕ) (out' : Slice ℕ) (outc
 
 -- No product is formed that could wrap: s = 2^63 with n = 2 is 2, whatever the cells, and so are 2^63 existing and 2^63 new monomials
 
-pub numerator_too_many : (κs : Lfts 4) (cells room : Slice ℕ) (p q : Slice ℤ) (r : LengthAnswer) (room' : Slice ℕ) (p' q' : Slice ℤ)
-    → hilbert_numerator.Post κs (2 ⨾ 2 ^ 63 ⨾ cells ⨾ room ⨾ p ⨾ q ⨾ tt) r (2 ⨾ 2 ^ 63 ⨾ cells ⨾ room' ⨾ p' ⨾ q' ⨾ tt) → number_in (of_length r) ≡ 2
-numerator_too_many κs cells room p q r room' p' q' o = too_many_lem (hilbert_numerator κs 2 (2 ^ 63) cells room p q r room' p' q' o).0 (lit≤ tt) (lit< tt)
+pub numerator_too_many : (κs : Lfts 4) (cells : Slice ℕ) (room : MutSlice ℕ) (p q : MutSlice ℤ) (r : LengthAnswer) (room' : MutSlice ℕ) (p' q' : MutSlice ℤ)
+    → hilbert_numerator_call.Post κs (2 ⨾ 2 ^ 63 ⨾ cells ⨾ room ⨾ p ⨾ q ⨾ tt) r (2 ⨾ 2 ^ 63 ⨾ cells ⨾ room' ⨾ p' ⨾ q' ⨾ tt) → number_in (of_length r) ≡ 2
+numerator_too_many κs cells room p q r room' p' q' o = too_many (hilbert_numerator κs 2 (2 ^ 63) cells room p q r room' p' q' o).0 (lit≤ tt) (lit< tt)
 
-pub update_too_many : (κs : Lfts 6) (given : Slice ℤ) (old new room : Slice ℕ) (p q : Slice ℤ) (r : LengthAnswer) (room' : Slice ℕ) (p' q' : Slice ℤ)
-    → add_generators.Post κs (2 ⨾ given ⨾ 2 ^ 63 ⨾ old ⨾ 2 ^ 63 ⨾ new ⨾ room ⨾ p ⨾ q ⨾ tt) r (2 ⨾ given ⨾ 2 ^ 63 ⨾ old ⨾ 2 ^ 63 ⨾ new ⨾ room' ⨾ p' ⨾ q' ⨾ tt) → number_in (of_length r) ≡ 2
-update_too_many κs given old new room p q r room' p' q' o = too_many_lem (add_generators κs 2 given (2 ^ 63) old (2 ^ 63) new room p q r room' p' q' o).0 (lit≤ tt) (lit< tt)
+pub update_too_many : (κs : Lfts 6) (given : Slice ℤ) (old new : Slice ℕ) (room : MutSlice ℕ) (p q : MutSlice ℤ) (r : LengthAnswer) (room' : MutSlice ℕ) (p' q' : MutSlice ℤ)
+    → add_generators_call.Post κs (2 ⨾ given ⨾ 2 ^ 63 ⨾ old ⨾ 2 ^ 63 ⨾ new ⨾ room ⨾ p ⨾ q ⨾ tt) r (2 ⨾ given ⨾ 2 ^ 63 ⨾ old ⨾ 2 ^ 63 ⨾ new ⨾ room' ⨾ p' ⨾ q' ⨾ tt) → number_in (of_length r) ≡ 2
+update_too_many κs given old new room p q r room' p' q' o = too_many (add_generators κs 2 given (2 ^ 63) old (2 ^ 63) new room p q r room' p' q' o).0 (lit≤ tt) (lit< tt)
 
-pub dimension_too_many : (κs : Lfts 5) (cells room : Slice ℕ) (p q : Slice ℤ) (sums : Slice ℕ) (r : DimensionAnswer) (room' : Slice ℕ) (p' q' : Slice ℤ) (sums' : Slice ℕ)
-    → quotient_dimension.Post κs (2 ⨾ 2 ^ 63 ⨾ cells ⨾ room ⨾ p ⨾ q ⨾ sums ⨾ tt) r (2 ⨾ 2 ^ 63 ⨾ cells ⨾ room' ⨾ p' ⨾ q' ⨾ sums' ⨾ tt) → number_in (of_dimension r) ≡ 2
-dimension_too_many κs cells room p q sums r room' p' q' sums' o = too_many_lem (quotient_dimension κs 2 (2 ^ 63) cells room p q sums r room' p' q' sums' o).0 (lit≤ tt) (lit< tt)
+pub dimension_too_many : (κs : Lfts 5) (cells : Slice ℕ) (room : MutSlice ℕ) (p q : MutSlice ℤ) (sums : MutSlice ℕ) (r : DimensionAnswer) (room' : MutSlice ℕ) (p' q' : MutSlice ℤ) (sums' : MutSlice ℕ)
+    → quotient_dimension_call.Post κs (2 ⨾ 2 ^ 63 ⨾ cells ⨾ room ⨾ p ⨾ q ⨾ sums ⨾ tt) r (2 ⨾ 2 ^ 63 ⨾ cells ⨾ room' ⨾ p' ⨾ q' ⨾ sums' ⨾ tt) → number_in (of_dimension r) ≡ 2
+dimension_too_many κs cells room p q sums r room' p' q' sums' o = too_many (quotient_dimension κs 2 (2 ^ 63) cells room p q sums r room' p' q' sums' o).0 (lit≤ tt) (lit< tt)
 
-pub record_too_many : (κs : Lfts 2) (cells out : Slice ℕ) (r : SizeAnswer) (out' : Slice ℕ)
-    → write_record.Post κs (2 ⨾ 2 ^ 63 ⨾ cells ⨾ out ⨾ tt) r (2 ⨾ 2 ^ 63 ⨾ cells ⨾ out' ⨾ tt) → number_in (of_size r) ≡ 2
-record_too_many κs cells out r out' o = too_many_lem (write_record κs 2 (2 ^ 63) cells out r out' o).0 (lit≤ tt) (lit< tt)
+pub record_too_many : (κs : Lfts 2) (cells : Slice ℕ) (out : MutSlice ℕ) (r : SizeAnswer) (out' : MutSlice ℕ)
+    → write_record_call.Post κs (2 ⨾ 2 ^ 63 ⨾ cells ⨾ out ⨾ tt) r (2 ⨾ 2 ^ 63 ⨾ cells ⨾ out' ⨾ tt) → number_in (of_size r) ≡ 2
+record_too_many κs cells out r out' o = too_many (write_record κs 2 (2 ^ 63) cells out r out' o).0 (lit≤ tt) (lit< tt)

@@ -5,17 +5,16 @@ use mathlib.Core.Path.{◌≡◌, refl, sym, ap, ap₂, subst, ◌∙◌}
 use mathlib.Core.Bool.{Bool, true, false, not, ◌&&◌, ◌||◌, false≢true}
 use mathlib.Core.List.{List, [], ◌∷◌, ◌++◌, append_assoc}
 use mathlib.Core.Option.{Option, none}
-use Prim.Native.Nat.{ℕ, zero, suc, ◌+◌, ◌*◌, ◌-◌, ◌^◌, ◌≤◌, ◌<◌}
-use native.Mathlib.Omega.{arith}
+use Prim.Native.Nat.{ℕ, zero, suc, ◌+◌, ◌*◌, ◌-◌, ◌^◌, ◌≤◌}
 use lib.Dec.{leb, ltb, eqb}
 use lib.IntN.{ℤ, pos, negsuc}
 use lib.ListN.{length, take, drop, replicate, get_or}
 use lib.Seq.{take_at}
-use borrow.Author.Tests.{leb-true, le-ltb, lt-leb, ltb-true, eqb-true, eq-eqb, not-true}
+use borrow.Author.Tests.{leb-true, le-ltb, ltb-true, eqb-true, eq-eqb, not-true}
 use contract.Lifetimes.{Lfts}
 use Rattle.laws.specs.Coefficients.{first as first_of}
 use Rattle.laws.specs.Count.{equal, HF}
-use Rattle.laws.specs.Dimension.{degree_bound, powers_product, dimension, top_degree}
+use Rattle.laws.specs.Dimension.{powers_product, dimension, top_degree}
 use Rattle.laws.specs.Hilbert.{hilbert, hilbert_size}
 use Rattle.laws.specs.Ideal.{listed}
 use Rattle.laws.specs.Numerator.{numerator, update}
@@ -26,9 +25,9 @@ use Rattle.laws.proofs.Monomial.{and_left, and_right}
 use Rattle.monomials.specs.Refusal.{refusal, after}
 use Rattle.monomials.specs.declared.refusal.Refusal.{Refusal}
 use Rattle.monomials.specs.declared.refusal.Refusal.TheVariants.{Output}
-use Rattle.numbers.specs.Dimension.{at_once, no_dimension, dimension_is, dimension_checks, dimension_answer}
+use Rattle.numbers.specs.Dimension.{at_once, no_dimension, dimension_is, dimension_answer}
 use Rattle.numbers.specs.Update.{beyond, update_checks, update_answer, update_first}
-use Rattle.numbers.specs.Hilbert.{signed_answer, hilbert_checks, hilbert_answer}
+use Rattle.numbers.specs.Hilbert.{signed_answer, hilbert_answer}
 use Rattle.numbers.specs.Wide.{value, wide, wide_of, signed_value}
 use Rattle.numbers.specs.Numerator.{length_answer, padded, numerator_checks, numerator_answer, numerator_first}
 use Rattle.numbers.specs.declared.dimension.DimensionAnswer.{DimensionAnswer}
@@ -39,10 +38,10 @@ use Rattle.records.specs.Answer.{answer_of as answer_bytes_of}
 use Rattle.records.specs.Host.{record_checks, host_checks, host_number, status}
 use Rattle.records.specs.Ideal.{not_record, write_checks, write_answer, write_bytes}
 use Rattle.records.specs.declared.ideal.SizeAnswer.{SizeAnswer}
-use Rattle.records.proofs.host.purlthicket_dim.Reads as purlthicket_dim
+use Rattle.records.proofs.host.purlthicket_dim.Reads as purlthicket_dim_call
 use Rattle.bridge.specs.Told.{number_in}
 use Rattle.bridge.specs.Numbers.{of_dimension}
-use Rattle.promises.specs.Promise.{Slice, ◌⨾◌}
+use Rattle.promises.specs.Promise.{Slice, MutSlice, ◌⨾◌}
 use Rattle.promises.specs.Stars.{Row, Says, SaysLine, stars}
 use Rattle.promises.proofs.Refusals.{purlthicket_dim}
 use Rattle.promises.proofs.Given.{numerator_done, update_done, value_done, dimension_done, writes}
@@ -139,8 +138,8 @@ coefficients_hold n s cells N h κs list room first second r room' first' second
     let L : List (List ℕ) = listed n s cells in
     let (f, g) = both (is_list n s cells) (same_all (numerator L) N) h in
     let (w, m, i) = list_fits n s cells f in
-    let none-refused = numerator_done n s cells room.now first.now second.now w m i c k l in
-    let (a, b) = coefficients_put (refusal (numerator_checks 255 60 n s cells room.now first.now second.now)) (numerator L) N first.now (coefficients_asked L) none-refused (same_all_eq (numerator L) N g) in (
+    let none_refused = numerator_done n s cells room.now first.now second.now w m i c k l in
+    let (a, b) = coefficients_put (refusal (numerator_checks 255 60 n s cells room.now first.now second.now)) (numerator L) N first.now (coefficients_asked L) none_refused (same_all_eq (numerator L) N g) in (
       ap (λ (y : LengthAnswer). y.outcome) (p.0 ∙ ap (λ (cs : List ℕ). numerator_answer 255 60 n s cs room.now first.now second.now) e) ∙ a,
       ap (take (length N)) (p.1.1.0 ∙ ap (λ (cs : List ℕ). numerator_first 255 60 n s cs room.now first.now second.now) e) ∙ b,
     )
@@ -186,8 +185,8 @@ record_holds n s cells bytes h κs list out r out' p e l =
       ap (take (length bytes)) (p.1 ∙ ap (λ (cs : List ℕ). write_bytes 255 60 n s cs out.now) e) ∙ b,
     )
 
-answer_holds : (rec bytes : List ℕ) → answer_test rec bytes ≡ true → (κs : Lfts 2) (given out : Slice ℕ) (r : ℕ) (out' : Slice ℕ)
-    → purlthicket_dim.Post κs (given ⨾ out ⨾ tt) r (given ⨾ out' ⨾ tt) → given.now ≡ rec → 26 ≤ length out.now → (r ≡ 0) × (take 26 out'.now ≡ bytes)
+answer_holds : (rec bytes : List ℕ) → answer_test rec bytes ≡ true → (κs : Lfts 2) (given : Slice ℕ) (out : MutSlice ℕ) (r : ℕ) (out' : MutSlice ℕ)
+    → purlthicket_dim_call.Post κs (given ⨾ out ⨾ tt) r (given ⨾ out' ⨾ tt) → given.now ≡ rec → 26 ≤ length out.now → (r ≡ 0) × (take 26 out'.now ≡ bytes)
 answer_holds rec bytes h κs given out r out' p e l =
     let said = answer_bytes_of 0 (dimension (width_in rec) (list_in rec)) (top_degree (width_in rec) (list_in rec)) in
     let (a, g) = both (eqb (record_status rec) 0) (eqb (length bytes) 26 && equal said bytes) h in
@@ -239,9 +238,9 @@ value_holds p n d z h κs given sums r sums' o e l =
     let (w, h₁) = both (leb n 255) _ h in
     let (m, h₂) = both (leb d 65536) _ h₁ in
     let (b, f) = both (ltb (hilbert_size p n d) (2 ^ 127)) (same (signed_value (wide_of x)) z) h₂ in
-    let none-refused = value_done n p d sums.now (leb-true n 255 w) (leb-true d 65536 m) (ltb-true (hilbert_size p n d) (2 ^ 127) b) l in (
+    let none_refused = value_done n p d sums.now (leb-true n 255 w) (leb-true d 65536 m) (ltb-true (hilbert_size p n d) (2 ^ 127) b) l in (
       wide_of x,
-      ap (λ (a : SignedAnswer). a.outcome) (o.0 ∙ ap (λ (g : List ℤ). hilbert_answer 255 65536 n g d sums.now) e) ∙ ap (λ (v : Option Refusal). (signed_answer v x).outcome) none-refused,
+      ap (λ (a : SignedAnswer). a.outcome) (o.0 ∙ ap (λ (g : List ℤ). hilbert_answer 255 65536 n g d sums.now) e) ∙ ap (λ (v : Option Refusal). (signed_answer v x).outcome) none_refused,
       same_eq (signed_value (wide_of x)) z f,
     )
 

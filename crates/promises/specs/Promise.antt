@@ -1,5 +1,6 @@
 -- The words in which the promises are stated, beside those of document 01.
 --   Slice X       == a lent slice of cells; `.now` is the list of what they hold
+--   MutSlice X    == a slice of cells lent to be written, before a call and after it
 --   a ⨾ b ⨾ tt    == the arguments of a call, in their order
 --   Rule          == a condition, and document 01's number for it
 --   First rules k == k is the number of the first rule whose condition holds, and 0 where none holds
@@ -10,11 +11,14 @@
 use Rattle.std.specs.Prelude.{◌≡◌, ◌≢◌, ◌⊎◌, List, [], ◌∷◌, ℕ, ◌<◌, ℤ, get_or}
 use Rattle.std.specs.Int.{w64}
 use Rattle.std.proofs.Common.{SFits}
-use Rattle.std.specs.Borrow.{Bor}
+use Rattle.std.specs.Borrow.{Bor, MutBor}
 use Rattle.laws.specs.Coefficients.{coefficient}
 
 abbrev pub Slice : Type 0 → Type 0
 Slice X = Bor (List X)
+
+abbrev pub MutSlice : Type 0 → Type 0
+MutSlice X = MutBor (List X)
 
 infixr 5 ◌⨾◌
 abbrev pub ◌⨾◌ : {A B : Type 0} → A → B → A × B

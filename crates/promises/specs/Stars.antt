@@ -22,17 +22,17 @@ use Rattle.numbers.specs.declared.hf_at.SignedAnswer.{SignedAnswer}
 use Rattle.numbers.specs.declared.numerator.LengthOutcome.{LengthOutcome}
 use Rattle.numbers.specs.declared.numerator.LengthAnswer.{LengthAnswer}
 use Rattle.numbers.specs.declared.wide.Wide.{Wide}
-use Rattle.numbers.proofs.dimension.quotient_dimension.Reads as quotient_dimension
-use Rattle.numbers.proofs.hf_at.hf_at.Reads as hf_at
-use Rattle.numbers.proofs.numerator.hilbert_numerator.Reads as hilbert_numerator
-use Rattle.numbers.proofs.update.add_generators.Reads as add_generators
+use Rattle.numbers.proofs.dimension.quotient_dimension.Reads as quotient_dimension_call
+use Rattle.numbers.proofs.hf_at.hf_at.Reads as hf_at_call
+use Rattle.numbers.proofs.numerator.hilbert_numerator.Reads as hilbert_numerator_call
+use Rattle.numbers.proofs.update.add_generators.Reads as add_generators_call
 use Rattle.records.specs.declared.ideal.SizeOutcome.{SizeOutcome}
 use Rattle.records.specs.declared.ideal.SizeAnswer.{SizeAnswer}
-use Rattle.records.proofs.ideal.write_record.Reads as write_record
-use Rattle.records.proofs.host.purlthicket_dim.Reads as purlthicket_dim
+use Rattle.records.proofs.ideal.write_record.Reads as write_record_call
+use Rattle.records.proofs.host.purlthicket_dim.Reads as purlthicket_dim_call
 use Rattle.bridge.specs.Told.{number_in}
 use Rattle.bridge.specs.Numbers.{of_dimension}
-use Rattle.promises.specs.Promise.{Slice, ◌⨾◌}
+use Rattle.promises.specs.Promise.{Slice, MutSlice, ◌⨾◌}
 
 pub data Row : Type 0 where
   -- the numerator's coefficients
@@ -55,8 +55,8 @@ pub data Row : Type 0 where
 
 abbrev pub Says : Row → Type 0
 Says (coefficients n s cells N) =
-    (κs : Lfts 4) (list room : Slice ℕ) (first second : Slice ℤ) (r : LengthAnswer) (room' : Slice ℕ) (first' second' : Slice ℤ)
-    → hilbert_numerator.Post κs (n ⨾ s ⨾ list ⨾ room ⨾ first ⨾ second ⨾ tt) r (n ⨾ s ⨾ list ⨾ room' ⨾ first' ⨾ second' ⨾ tt)
+    (κs : Lfts 4) (list : Slice ℕ) (room : MutSlice ℕ) (first second : MutSlice ℤ) (r : LengthAnswer) (room' : MutSlice ℕ) (first' second' : MutSlice ℤ)
+    → hilbert_numerator_call.Post κs (n ⨾ s ⨾ list ⨾ room ⨾ first ⨾ second ⨾ tt) r (n ⨾ s ⨾ list ⨾ room' ⨾ first' ⨾ second' ⨾ tt)
     → list.now ≡ cells
     → cells_asked n (listed n s cells) ≤ length room.now
     → coefficients_asked (listed n s cells) ≤ length first.now
@@ -64,8 +64,8 @@ Says (coefficients n s cells N) =
     → (r.outcome ≡ LengthOutcome.Value (length N)) × (take (length N) first'.now ≡ N)
 Says (counts n s cells values) = first (length values) (HF (listed n s cells) n) ≡ values
 Says (dimension_of n s cells x) =
-    (κs : Lfts 5) (list room : Slice ℕ) (first second : Slice ℤ) (sums : Slice ℕ) (r : DimensionAnswer) (room' : Slice ℕ) (first' second' : Slice ℤ) (sums' : Slice ℕ)
-    → quotient_dimension.Post κs (n ⨾ s ⨾ list ⨾ room ⨾ first ⨾ second ⨾ sums ⨾ tt) r (n ⨾ s ⨾ list ⨾ room' ⨾ first' ⨾ second' ⨾ sums' ⨾ tt)
+    (κs : Lfts 5) (list : Slice ℕ) (room : MutSlice ℕ) (first second : MutSlice ℤ) (sums : MutSlice ℕ) (r : DimensionAnswer) (room' : MutSlice ℕ) (first' second' : MutSlice ℤ) (sums' : MutSlice ℕ)
+    → quotient_dimension_call.Post κs (n ⨾ s ⨾ list ⨾ room ⨾ first ⨾ second ⨾ sums ⨾ tt) r (n ⨾ s ⨾ list ⨾ room' ⨾ first' ⨾ second' ⨾ sums' ⨾ tt)
     → list.now ≡ cells
     → (at_once n (listed n s cells) ≡ false
     → (cells_asked n (listed n s cells) ≤ length room.now)
@@ -74,26 +74,26 @@ Says (dimension_of n s cells x) =
     × (2 * (degree_bound n (listed n s cells) + 1) ≤ length sums.now))
     → (y : Dimension) × (r.outcome ≡ DimensionOutcome.Value y) × (value y.dimension ≡ x)
 Says (no_dimension_of n s cells) =
-    (κs : Lfts 5) (list room : Slice ℕ) (first second : Slice ℤ) (sums : Slice ℕ) (r : DimensionAnswer) (room' : Slice ℕ) (first' second' : Slice ℤ) (sums' : Slice ℕ)
-    → quotient_dimension.Post κs (n ⨾ s ⨾ list ⨾ room ⨾ first ⨾ second ⨾ sums ⨾ tt) r (n ⨾ s ⨾ list ⨾ room' ⨾ first' ⨾ second' ⨾ sums' ⨾ tt)
+    (κs : Lfts 5) (list : Slice ℕ) (room : MutSlice ℕ) (first second : MutSlice ℤ) (sums : MutSlice ℕ) (r : DimensionAnswer) (room' : MutSlice ℕ) (first' second' : MutSlice ℤ) (sums' : MutSlice ℕ)
+    → quotient_dimension_call.Post κs (n ⨾ s ⨾ list ⨾ room ⨾ first ⨾ second ⨾ sums ⨾ tt) r (n ⨾ s ⨾ list ⨾ room' ⨾ first' ⨾ second' ⨾ sums' ⨾ tt)
     → list.now ≡ cells
     → number_in (of_dimension r) ≡ 13
 Says (record_of n s cells bytes) =
-    (κs : Lfts 2) (list out : Slice ℕ) (r : SizeAnswer) (out' : Slice ℕ)
-    → write_record.Post κs (n ⨾ s ⨾ list ⨾ out ⨾ tt) r (n ⨾ s ⨾ list ⨾ out' ⨾ tt)
+    (κs : Lfts 2) (list : Slice ℕ) (out : MutSlice ℕ) (r : SizeAnswer) (out' : MutSlice ℕ)
+    → write_record_call.Post κs (n ⨾ s ⨾ list ⨾ out ⨾ tt) r (n ⨾ s ⨾ list ⨾ out' ⨾ tt)
     → list.now ≡ cells
     → length bytes ≤ length out.now
     → (r.outcome ≡ SizeOutcome.Value (length bytes)) × (take (length bytes) out'.now ≡ bytes)
 Says (answer_of n s cells bytes) =
-    (κs : Lfts 2) (rec out : Slice ℕ) (r : ℕ) (out' : Slice ℕ)
-    → purlthicket_dim.Post κs (rec ⨾ out ⨾ tt) r (rec ⨾ out' ⨾ tt)
+    (κs : Lfts 2) (rec : Slice ℕ) (out : MutSlice ℕ) (r : ℕ) (out' : MutSlice ℕ)
+    → purlthicket_dim_call.Post κs (rec ⨾ out ⨾ tt) r (rec ⨾ out' ⨾ tt)
     → rec.now ≡ ideal_record n (listed n s cells)
     → 26 ≤ length out.now
     → (r ≡ 0) × (take 26 out'.now ≡ bytes)
 Says (sizes n s cells e c k) = (pairs n (listed n s cells) ≡ e) × (cells_asked n (listed n s cells) ≡ c) × (coefficients_asked (listed n s cells) ≡ k)
 Says (updated n G s0 existing s1 added N) =
-    (κs : Lfts 6) (given : Slice ℤ) (old new room : Slice ℕ) (first second : Slice ℤ) (r : LengthAnswer) (room' : Slice ℕ) (first' second' : Slice ℤ)
-    → add_generators.Post κs (n ⨾ given ⨾ s0 ⨾ old ⨾ s1 ⨾ new ⨾ room ⨾ first ⨾ second ⨾ tt) r (n ⨾ given ⨾ s0 ⨾ old ⨾ s1 ⨾ new ⨾ room' ⨾ first' ⨾ second' ⨾ tt)
+    (κs : Lfts 6) (given : Slice ℤ) (old new : Slice ℕ) (room : MutSlice ℕ) (first second : MutSlice ℤ) (r : LengthAnswer) (room' : MutSlice ℕ) (first' second' : MutSlice ℤ)
+    → add_generators_call.Post κs (n ⨾ given ⨾ s0 ⨾ old ⨾ s1 ⨾ new ⨾ room ⨾ first ⨾ second ⨾ tt) r (n ⨾ given ⨾ s0 ⨾ old ⨾ s1 ⨾ new ⨾ room' ⨾ first' ⨾ second' ⨾ tt)
     → given.now ≡ G
     → old.now ≡ existing
     → new.now ≡ added
@@ -102,8 +102,8 @@ Says (updated n G s0 existing s1 added N) =
     → update_asked G (listed n s0 existing ++ listed n s1 added) ≤ length second.now
     → (r.outcome ≡ LengthOutcome.Value (length N)) × (take (length N) first'.now ≡ N)
 Says (value_at p n d z) =
-    (κs : Lfts 2) (given : Slice ℤ) (sums : Slice ℕ) (r : SignedAnswer) (sums' : Slice ℕ)
-    → hf_at.Post κs (n ⨾ given ⨾ d ⨾ sums ⨾ tt) r (n ⨾ given ⨾ d ⨾ sums' ⨾ tt)
+    (κs : Lfts 2) (given : Slice ℤ) (sums : MutSlice ℕ) (r : SignedAnswer) (sums' : MutSlice ℕ)
+    → hf_at_call.Post κs (n ⨾ given ⨾ d ⨾ sums ⨾ tt) r (n ⨾ given ⨾ d ⨾ sums' ⨾ tt)
     → given.now ≡ p
     → 4 * (d + 1) ≤ length sums.now
     → (w : Wide) × (r.outcome ≡ SignedOutcome.Value w) × (signed_value w ≡ z)
