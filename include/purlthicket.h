@@ -1,5 +1,5 @@
 /* Purlthicket for a host in C or C++: how many monomials are left that no listed one divides, from the bytes of an ideal record. Link
-   target/staticlib/librecords.a, which `rt staticlib records` writes. */
+   target/staticlib/librecords.a, which `tests/archive records` writes. */
 #ifndef PURLTHICKET_H
 #define PURLTHICKET_H
 #include <stddef.h>
