@@ -3,9 +3,8 @@
 // tested, not proved.
 #![tactic(auto)]
 
-ghost use Rattle.std.specs.Prelude.{◌≡◌, ◌<◌, All, take, length, IfOk, IfSome, OnOk};
-ghost use Rattle.std.specs.Io.{ReadsAtMost};
-ghost use Rattle.std.specs.Io.KnownBytes.{Appends, Consumes, IsAtEnd};
+ghost use Rattle.std.specs.Prelude.{◌≡◌, ◌<◌, All, IfSome, OnOk};
+ghost use Rattle.std.specs.Io.KnownBytes.{Appends};
 ghost use Rattle.dim.specs.Dim.{dim_bytes};
 
 use monomials::refusal::{MAX_COUNT, MAX_WIDTH};
@@ -15,6 +14,7 @@ use records::host::answer_record;
 use records::ideal::MAX_RECORD;
 use std::io;
 use std::io::{Read, Write};
+use streams::read_full;
 
 // One byte more than the longest record has: a longer input is no record, and neither is what is read of it (`whole_input`).
 const MAX_INPUT: usize = MAX_RECORD + 1;
@@ -32,23 +32,6 @@ fn answer<R: Read, W: Write>(input: &mut R, output: &mut W) -> io::Result<()>
     let size = read_full(input, &mut room)?;
     let out = answer_to(&room[0..size]);
     output.write_all(&out)
-}
-
-// Reads until the slice is full or the input ends; how many bytes, from the front of the slice on, were read.
-fn read_full<R: Read>(input: &mut R, room: &mut [u8]) -> io::Result<usize>
-    ensures within { ReadsAtMost result room.new }
-    ensures bytes { IfOk result (λ n. Consumes (R.remaining input.old) (R.remaining input.new) (take n room.new)) }
-    ensures end { IfOk result (λ n. n < length room.new → IsAtEnd (R.remaining input.new)) }
-{
-    let mut size: usize = 0;
-    while size < room.len() {
-        let n = input.read(&mut room[size..])?;
-        if n == 0 {
-            break;
-        }
-        size += n;
-    }
-    Ok(size)
 }
 
 // The answer record of the input.

@@ -3,7 +3,7 @@
 --   Passed                == what holds where none of them refuses
 -- In this file:
 --   stops-.., asks        the outcomes, check by check
---   refused_is, asked_is  an outcome read back
+--   refused_is, asked_is  an outcome read back; `passed` is `asked_is` with all but its two facts left to be found
 --   one_checks, one-..    a call on one list, with no given coefficients
 use Rattle.std.proofs.Common.{◌≡◌, ℕ, ◌+◌, ◌*◌, ◌<◌, ◌≤◌, max, Bool, true, false, not, ◌||◌, eqb, ltb, List, [], ◌∷◌, ◌++◌, length, ℤ, sym, refl, ap, ◌∙◌, ap₂, append-nil, add-zero, zero-mul, arith, ltb-false, le-ltb, lt-ltb, eq-eqb, ne_eqb, eqb-true}
 use mathlib.Core.Option.{Option, none, some, Option-elim}

@@ -6,8 +6,8 @@ mod cases;
 
 use cases::is_right;
 use std::io;
+use streams::read_full;
 use vectors::counts::{say_counts, tally};
-use vectors::input::read_full;
 
 fn main(rt: HostRuntime) -> io::Result<()> {
     let mut room = [0u8; 131072];

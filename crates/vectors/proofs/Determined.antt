@@ -1,4 +1,4 @@
--- Any two outcomes that a contract of the reader allows are equal, but those of `read_full`, which takes what a stream gives.
+-- Any two outcomes that a contract of the reader allows are equal.
 -- Assumes nothing.
 use Rattle.std.proofs.Common.{◌≡◌, ℕ, Bool, Ok, sym, ◌∙◌}
 use contract.Lifetimes.{Lfts}

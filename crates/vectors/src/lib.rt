@@ -3,7 +3,6 @@
 
 pub mod asked;
 pub mod counts;
-pub mod input;
 pub mod rooms;
 pub mod told;
 

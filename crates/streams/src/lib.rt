@@ -1,4 +1,6 @@
-// A text, read from a stream into a slice.
+// What a stream gives, read into a slice. Programs that read standard input rest on it.
+#![tactic(auto)]
+
 ghost use Rattle.std.specs.Prelude.{◌<◌, take, length, IfOk};
 ghost use Rattle.std.specs.Io.{ReadsAtMost};
 ghost use Rattle.std.specs.Io.KnownBytes.{Consumes, IsAtEnd};
