@@ -1,67 +1,54 @@
 -- The answers of the calls on monomials and masks, as the bridge tells them.
+--   .._words x    == the words of a value, where it has any
 --   of_number a   == the number
 --   of_write a    == no words
 --   of_test a     == 1 for yes, 0 for no
 --   of_order a    == 0 less, 1 equal, 2 greater
 --   of_mask a     == the low word, the high word
 -- Assumes nothing.
-use Rattle.std.specs.Prelude.{◌≡◌, refl, [], ◌∷◌, ℕ}
+use Rattle.std.specs.Prelude.{◌≡◌, refl, Bool, List, [], ◌∷◌, ℕ, Result, ⊤}
 use Rattle.laws.specs.Monomial.{power}
 use Rattle.monomials.specs.Monomial.{degree_answer, exponent_answer, degrevlex_answer}
 use Rattle.monomials.specs.Mask.{mask_answer}
-use Rattle.monomials.specs.declared.monomial.NumberOutcome.{NumberOutcome}
-use Rattle.monomials.specs.declared.monomial.NumberAnswer.{NumberAnswer}
-use Rattle.monomials.specs.declared.monomial.WriteOutcome.{WriteOutcome}
-use Rattle.monomials.specs.declared.monomial.WriteAnswer.{WriteAnswer}
-use Rattle.monomials.specs.declared.monomial.TestOutcome.{TestOutcome}
-use Rattle.monomials.specs.declared.monomial.TestAnswer.{TestAnswer}
-use Rattle.monomials.specs.declared.monomial.Order.{Order}
-use Rattle.monomials.specs.declared.monomial.OrderOutcome.{OrderOutcome}
-use Rattle.monomials.specs.declared.monomial.OrderAnswer.{OrderAnswer}
-use Rattle.monomials.specs.declared.divmask.MaskOutcome.{MaskOutcome}
-use Rattle.monomials.specs.declared.divmask.MaskAnswer.{MaskAnswer}
-use Rattle.bridge.specs.declared.told.Told.{Told}
-use Rattle.bridge.specs.Told.{number_in, values_in, bit_of}
+use Rattle.std.specs.declared.cmp.Ordering.{Ordering as Order}
+use Rattle.monomials.specs.declared.divmask.DivMask.{DivMask}
+use Rattle.monomials.specs.declared.refusal.Refusal.{Refusal}
+use Rattle.bridge.specs.Told.{told_by, number_in, values_in, bit_of}
 
-abbrev pub number_told : NumberOutcome → Told
-number_told (NumberOutcome.Value x) = Told.Done x 0 0
-number_told (NumberOutcome.Refused r) = Told.Refused r
+abbrev pub number_words : ℕ → List ℕ
+number_words x = x ∷ 0 ∷ 0 ∷ []
 
-abbrev pub of_number : NumberAnswer → Told
-of_number a = number_told a.outcome
+abbrev pub no_words : ⊤ → List ℕ
+no_words x = 0 ∷ 0 ∷ 0 ∷ []
 
-abbrev pub write_told : WriteOutcome → Told
-write_told WriteOutcome.Written = Told.Done 0 0 0
-write_told (WriteOutcome.Refused r) = Told.Refused r
-
-abbrev pub of_write : WriteAnswer → Told
-of_write a = write_told a.outcome
-
-abbrev pub test_told : TestOutcome → Told
-test_told (TestOutcome.Value b) = Told.Done (bit_of b) 0 0
-test_told (TestOutcome.Refused r) = Told.Refused r
-
-abbrev pub of_test : TestAnswer → Told
-of_test a = test_told a.outcome
+abbrev pub test_words : Bool → List ℕ
+test_words b = bit_of b ∷ 0 ∷ 0 ∷ []
 
 abbrev pub order_word : Order → ℕ
 order_word Order.Less = 0
 order_word Order.Equal = 1
 order_word Order.Greater = 2
 
-abbrev pub order_told : OrderOutcome → Told
-order_told (OrderOutcome.Value o) = Told.Done (order_word o) 0 0
-order_told (OrderOutcome.Refused r) = Told.Refused r
+abbrev pub order_words : Order → List ℕ
+order_words o = order_word o ∷ 0 ∷ 0 ∷ []
 
-abbrev pub of_order : OrderAnswer → Told
-of_order a = order_told a.outcome
+abbrev pub mask_words : DivMask → List ℕ
+mask_words m = m.low ∷ m.high ∷ 0 ∷ []
 
-abbrev pub mask_told : MaskOutcome → Told
-mask_told (MaskOutcome.Value m) = Told.Done m.low m.high 0
-mask_told (MaskOutcome.Refused r) = Told.Refused r
+abbrev pub of_number : Result ℕ Refusal → Result (List ℕ) Refusal
+of_number a = told_by number_words a
 
-abbrev pub of_mask : MaskAnswer → Told
-of_mask a = mask_told a.outcome
+abbrev pub of_write : Result ⊤ Refusal → Result (List ℕ) Refusal
+of_write a = told_by no_words a
+
+abbrev pub of_test : Result Bool Refusal → Result (List ℕ) Refusal
+of_test a = told_by test_words a
+
+abbrev pub of_order : Result Order Refusal → Result (List ℕ) Refusal
+of_order a = told_by order_words a
+
+abbrev pub of_mask : Result DivMask Refusal → Result (List ℕ) Refusal
+of_mask a = told_by mask_words a
 
 test_degree : values_in (of_number (degree_answer 255 (2 ∷ 3 ∷ []))) (9 ∷ 9 ∷ 9 ∷ 9 ∷ []) ≡ 5 ∷ 0 ∷ 0 ∷ 0 ∷ []
 test_degree = refl

@@ -1,54 +1,44 @@
 -- The answers of the calls on coefficient lists, of the numerator, the Hilbert function and the dimension, as the bridge tells them.
+--   .._words x     == the words of a value
 --   of_word x      == the word x
 --   of_degree a    == 1 and the degree, or 0 for none
 --   of_signed a    == the low word, the high word
 --   of_length a    == the length
 --   of_dimension a == the low word, the high word, the top degree
 -- Assumes nothing.
-use Rattle.std.specs.Prelude.{◌≡◌, refl, [], ◌∷◌, ℕ, ◌-◌, ◌^◌, pos, negsuc, replicate}
+use Rattle.std.specs.Prelude.{◌≡◌, refl, List, [], ◌∷◌, ℕ, ◌-◌, ◌^◌, pos, negsuc, replicate, Option, Some, None, Result, Ok}
 use Rattle.numbers.specs.Coefficients.{degree_of}
 use Rattle.numbers.specs.Hilbert.{hilbert_answer}
-use Rattle.numbers.specs.declared.coefficients.DegreeOutcome.{DegreeOutcome}
-use Rattle.numbers.specs.declared.coefficients.DegreeAnswer.{DegreeAnswer}
-use Rattle.numbers.specs.declared.hf_at.SignedOutcome.{SignedOutcome}
-use Rattle.numbers.specs.declared.hf_at.SignedAnswer.{SignedAnswer}
-use Rattle.numbers.specs.declared.numerator.LengthOutcome.{LengthOutcome}
-use Rattle.numbers.specs.declared.numerator.LengthAnswer.{LengthAnswer}
-use Rattle.numbers.specs.declared.dimension.DimensionOutcome.{DimensionOutcome}
-use Rattle.numbers.specs.declared.dimension.DimensionAnswer.{DimensionAnswer}
-use Rattle.bridge.specs.declared.told.Told.{Told}
-use Rattle.bridge.specs.Told.{number_in, values_in}
+use Rattle.monomials.specs.declared.refusal.Refusal.{Refusal}
+use Rattle.numbers.specs.declared.wide.Wide.{Wide}
+use Rattle.numbers.specs.declared.dimension.Dimension.{Dimension}
+use Rattle.bridge.specs.Told.{told_by, number_in, values_in}
+use Rattle.bridge.specs.Monomials.{number_words}
 
-abbrev pub of_word : ℕ → Told
-of_word x = Told.Done x 0 0
+abbrev pub degree_words : Option ℕ → List ℕ
+degree_words (Some d) = 1 ∷ d ∷ 0 ∷ []
+degree_words None = 0 ∷ 0 ∷ 0 ∷ []
 
-abbrev pub degree_told : DegreeOutcome → Told
-degree_told (DegreeOutcome.Value d) = Told.Done 1 d 0
-degree_told DegreeOutcome.None = Told.Done 0 0 0
+abbrev pub signed_words : Wide → List ℕ
+signed_words w = w.low ∷ w.high ∷ 0 ∷ []
 
-abbrev pub of_degree : DegreeAnswer → Told
-of_degree a = degree_told a.outcome
+abbrev pub dimension_words : Dimension → List ℕ
+dimension_words d = d.dimension.low ∷ d.dimension.high ∷ d.top ∷ []
 
-abbrev pub signed_told : SignedOutcome → Told
-signed_told (SignedOutcome.Value w) = Told.Done w.low w.high 0
-signed_told (SignedOutcome.Refused r) = Told.Refused r
+abbrev pub of_word : ℕ → Result (List ℕ) Refusal
+of_word x = Ok (number_words x)
 
-abbrev pub of_signed : SignedAnswer → Told
-of_signed a = signed_told a.outcome
+abbrev pub of_degree : Option ℕ → Result (List ℕ) Refusal
+of_degree a = Ok (degree_words a)
 
-abbrev pub length_told : LengthOutcome → Told
-length_told (LengthOutcome.Value k) = Told.Done k 0 0
-length_told (LengthOutcome.Refused r) = Told.Refused r
+abbrev pub of_signed : Result Wide Refusal → Result (List ℕ) Refusal
+of_signed a = told_by signed_words a
 
-abbrev pub of_length : LengthAnswer → Told
-of_length a = length_told a.outcome
+abbrev pub of_length : Result ℕ Refusal → Result (List ℕ) Refusal
+of_length a = told_by number_words a
 
-abbrev pub dimension_told : DimensionOutcome → Told
-dimension_told (DimensionOutcome.Value d) = Told.Done d.dimension.low d.dimension.high d.top
-dimension_told (DimensionOutcome.Refused r) = Told.Refused r
-
-abbrev pub of_dimension : DimensionAnswer → Told
-of_dimension a = dimension_told a.outcome
+abbrev pub of_dimension : Result Dimension Refusal → Result (List ℕ) Refusal
+of_dimension a = told_by dimension_words a
 
 test_degree : values_in (of_degree (degree_of (pos 1 ∷ negsuc 1 ∷ pos 0 ∷ []))) (9 ∷ 8 ∷ 7 ∷ 6 ∷ []) ≡ 1 ∷ 1 ∷ 0 ∷ 0 ∷ []
 test_degree = refl

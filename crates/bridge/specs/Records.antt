@@ -1,46 +1,34 @@
 -- The answers of the calls on ideal records, as the bridge tells them. P is the size of the greatest part, C the greatest count.
+--   shape_words s  == the words of a width and a count
 --   of_size a      == the size
 --   of_check a x   == x where nothing is wrong
 --   of_copy a      == the width, the count
 --   place_told     == 14 where the output is shorter than P, before all else; then the place's refusal, or the length of the part
 --   place_bytes    == the output after that call: the part, then what stood there
 -- Assumes nothing.
-use Rattle.std.specs.Prelude.{◌≡◌, refl, cond, List, [], ◌∷◌, ◌++◌, ℕ, ltb, length, drop, replicate}
+use Rattle.std.specs.Prelude.{◌≡◌, refl, cond, List, [], ◌∷◌, ◌++◌, ℕ, ltb, length, drop, replicate, Result, Err, ⊤}
 use Rattle.laws.specs.Record.{ideal_record}
+use Rattle.monomials.specs.declared.refusal.Refusal.{Refusal}
 use Rattle.monomials.specs.declared.refusal.Refusal.TheVariants.{Output}
 use Rattle.records.specs.Ideal.{place_answer, place_part}
-use Rattle.records.specs.declared.ideal.SizeOutcome.{SizeOutcome}
-use Rattle.records.specs.declared.ideal.SizeAnswer.{SizeAnswer}
-use Rattle.records.specs.declared.ideal.CheckOutcome.{CheckOutcome}
-use Rattle.records.specs.declared.ideal.CheckAnswer.{CheckAnswer}
-use Rattle.records.specs.declared.ideal.CopyOutcome.{CopyOutcome}
-use Rattle.records.specs.declared.ideal.CopyAnswer.{CopyAnswer}
-use Rattle.bridge.specs.declared.told.Told.{Told}
-use Rattle.bridge.specs.Told.{number_in, values_in}
+use Rattle.records.specs.declared.ideal.Shape.{Shape}
+use Rattle.bridge.specs.Told.{told_by, number_in, values_in}
+use Rattle.bridge.specs.Monomials.{number_words}
 
-abbrev pub size_told : SizeOutcome → Told
-size_told (SizeOutcome.Value x) = Told.Done x 0 0
-size_told (SizeOutcome.Refused r) = Told.Refused r
+abbrev pub shape_words : Shape → List ℕ
+shape_words s = s.n ∷ s.m ∷ 0 ∷ []
 
-abbrev pub of_size : SizeAnswer → Told
-of_size a = size_told a.outcome
+abbrev pub of_size : Result ℕ Refusal → Result (List ℕ) Refusal
+of_size a = told_by number_words a
 
-abbrev pub check_told : CheckOutcome → ℕ → Told
-check_told CheckOutcome.Done x = Told.Done x 0 0
-check_told (CheckOutcome.Refused r) x = Told.Refused r
+abbrev pub of_check : Result ⊤ Refusal → ℕ → Result (List ℕ) Refusal
+of_check a x = told_by (λ _. number_words x) a
 
-abbrev pub of_check : CheckAnswer → ℕ → Told
-of_check a x = check_told a.outcome x
+abbrev pub of_copy : Result Shape Refusal → Result (List ℕ) Refusal
+of_copy a = told_by shape_words a
 
-abbrev pub copy_told : CopyOutcome → Told
-copy_told (CopyOutcome.Value s) = Told.Done s.n s.m 0
-copy_told (CopyOutcome.Refused r) = Told.Refused r
-
-abbrev pub of_copy : CopyAnswer → Told
-of_copy a = copy_told a.outcome
-
-abbrev pub place_told : ℕ → ℕ → List ℕ → ℕ → List ℕ → Told
-place_told P C rec k out = cond (ltb (length out) P) (Told.Refused Output) (of_check (place_answer C rec k) (length (place_part C rec k)))
+abbrev pub place_told : ℕ → ℕ → List ℕ → ℕ → List ℕ → Result (List ℕ) Refusal
+place_told P C rec k out = cond (ltb (length out) P) (Err Output) (of_check (place_answer C rec k) (length (place_part C rec k)))
 
 abbrev pub place_bytes : ℕ → ℕ → List ℕ → ℕ → List ℕ → List ℕ
 place_bytes P C rec k out = cond (ltb (length out) P) out (place_part C rec k ++ drop (length (place_part C rec k)) out)

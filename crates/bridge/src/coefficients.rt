@@ -7,18 +7,14 @@ ghost use Rattle.numbers.specs.Coefficients.{degree_of};
 ghost use Rattle.bridge.specs.Told.{bit_of, number_in, values_in};
 ghost use Rattle.bridge.specs.Numbers.{of_word, of_degree};
 
-use crate::told::{Told, bit_of, tell};
-use numbers::coefficients::{DegreeAnswer, DegreeOutcome};
+use crate::told::tell;
 
 // 1 where every coefficient is 0, else 0.
 pub fn pt_is_zero(coeffs: &[i64], values: &mut [u64; 4]) -> u8
     ensures value { result ≡ number_in (of_word (bit_of (eqb (length (trim coeffs.now)) 0))) }
     ensures values_after { values.new ≡ values_in (of_word (bit_of (eqb (length (trim coeffs.now)) 0))) values.old }
 {
-    tell(
-        of_word(bit_of(numbers::coefficients::is_zero(coeffs))),
-        values,
-    )
+    tell(Ok(numbers::coefficients::is_zero(coeffs)), values)
 }
 
 // 1 and the degree, or 0 where every coefficient is 0.
@@ -26,7 +22,7 @@ pub fn pt_coeff_degree(coeffs: &[i64], values: &mut [u64; 4]) -> u8
     ensures value { result ≡ number_in (of_degree (degree_of coeffs.now)) }
     ensures values_after { values.new ≡ values_in (of_degree (degree_of coeffs.now)) values.old }
 {
-    tell(of_degree(numbers::coefficients::degree(coeffs)), values)
+    tell(Ok(numbers::coefficients::degree(coeffs)), values)
 }
 
 // The 64 bits of the coefficient of t^d.
@@ -35,25 +31,7 @@ pub fn pt_coeff(coeffs: &[i64], d: u64, values: &mut [u64; 4]) -> u8
     ensures values_after { values.new ≡ values_in (of_word (of_z w64 (coefficient coeffs.now d))) values.old }
 {
     tell(
-        of_word(numbers::signed::to_bits(numbers::coefficients::coeff(coeffs, d as usize))),
+        Ok(numbers::signed::to_bits(numbers::coefficients::coeff(coeffs, d as usize))),
         values,
     )
-}
-
-// The word.
-fn of_word(x: u64) -> Told
-    ensures { result ≡ of_word x }
-{
-    Told::Done(x, 0, 0)
-}
-
-// 1 and the degree, or 0 for none.
-fn of_degree(answer: DegreeAnswer) -> Told
-    ensures { result ≡ of_degree answer }
-{
-    let outcome = answer.outcome;
-    match outcome {
-        DegreeOutcome::Value(d) => Told::Done(1, d, 0),
-        DegreeOutcome::None => Told::Done(0, 0, 0),
-    }
 }

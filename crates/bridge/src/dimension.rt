@@ -4,9 +4,8 @@ ghost use Rattle.numbers.specs.Dimension.{dimension_answer, dimension_room, dime
 ghost use Rattle.bridge.specs.Told.{number_in, values_in};
 ghost use Rattle.bridge.specs.Numbers.{of_dimension};
 
-use crate::told::{Told, tell};
+use crate::told::tell;
 use monomials::refusal::{MAX_COUNT, MAX_WIDTH};
-use numbers::dimension::{DimensionAnswer, DimensionOutcome};
 use numbers::hf_at::MAX_DEGREE;
 
 // The low word and the high word of the dimension of the s monomials in `cells`, and the top degree.
@@ -28,20 +27,9 @@ pub fn pt_dimension(
     ensures values_after { values.new ≡ values_in (of_dimension (dimension_answer MAX_WIDTH MAX_COUNT MAX_DEGREE n s cells.now room.old first.old second.old sums.old)) values.old }
 {
     tell(
-        of_dimension(numbers::dimension::quotient_dimension(
+        numbers::dimension::quotient_dimension(
             n as usize, s as usize, cells, room, first, second, sums,
-        )),
+        ),
         values,
     )
-}
-
-// The low word, the high word, the top degree.
-fn of_dimension(answer: DimensionAnswer) -> Told
-    ensures { result ≡ of_dimension answer }
-{
-    let outcome = answer.outcome;
-    match outcome {
-        DimensionOutcome::Value(d) => Told::Done(d.dimension.low, d.dimension.high, d.top),
-        DimensionOutcome::Refused(refusal) => Told::Refused(refusal),
-    }
 }

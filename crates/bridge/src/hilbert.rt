@@ -4,9 +4,9 @@ ghost use Rattle.numbers.specs.Hilbert.{hilbert_answer, hilbert_room};
 ghost use Rattle.bridge.specs.Told.{number_in, values_in};
 ghost use Rattle.bridge.specs.Numbers.{of_signed};
 
-use crate::told::{Told, tell};
+use crate::told::tell;
 use monomials::refusal::MAX_WIDTH;
-use numbers::hf_at::{MAX_DEGREE, SignedAnswer, SignedOutcome};
+use numbers::hf_at::MAX_DEGREE;
 
 // The low word and the high word of the value at d, in two's complement.
 pub fn pt_hf_at(n: u64, coeffs: &[i64], d: u64, sums: &mut [u64], values: &mut [u64; 4]) -> u8
@@ -15,18 +15,7 @@ pub fn pt_hf_at(n: u64, coeffs: &[i64], d: u64, sums: &mut [u64], values: &mut [
     ensures values_after { values.new ≡ values_in (of_signed (hilbert_answer MAX_WIDTH MAX_DEGREE n coeffs.now d sums.old)) values.old }
 {
     tell(
-        of_signed(numbers::hf_at::hf_at(n as usize, coeffs, d as usize, sums)),
+        numbers::hf_at::hf_at(n as usize, coeffs, d as usize, sums),
         values,
     )
-}
-
-// The low word, the high word.
-fn of_signed(answer: SignedAnswer) -> Told
-    ensures { result ≡ of_signed answer }
-{
-    let outcome = answer.outcome;
-    match outcome {
-        SignedOutcome::Value(w) => Told::Done(w.low, w.high, 0),
-        SignedOutcome::Refused(refusal) => Told::Refused(refusal),
-    }
 }

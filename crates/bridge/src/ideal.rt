@@ -4,9 +4,8 @@ ghost use Rattle.records.specs.Ideal.{write_answer, write_bytes, place_answer, c
 ghost use Rattle.bridge.specs.Told.{number_in, values_in};
 ghost use Rattle.bridge.specs.Records.{of_size, of_check, of_copy, place_told, place_bytes};
 
-use crate::told::{Told, number_in, tell};
-use monomials::refusal::{MAX_COUNT, MAX_WIDTH, Refusal};
-use records::ideal::{CheckAnswer, CheckOutcome, CopyAnswer, CopyOutcome, SizeAnswer, SizeOutcome};
+use crate::told::{number_in, tell};
+use monomials::refusal::{MAX_COUNT, MAX_WIDTH, Refusal, number_of};
 
 // The exponent bytes of a monomial of the greatest width.
 pub const MAX_PART: usize = 2 * MAX_WIDTH;
@@ -18,7 +17,7 @@ pub fn pt_write_record(n: u64, s: u64, cells: &[u16], out: &mut [u8], values: &m
     ensures values_after { values.new ≡ values_in (of_size (write_answer MAX_WIDTH MAX_COUNT n s cells.now out.old)) values.old }
 {
     tell(
-        of_size(records::ideal::write_record(n as usize, s as usize, cells, out)),
+        records::ideal::write_record(n as usize, s as usize, cells, out),
         values,
     )
 }
@@ -27,7 +26,7 @@ pub fn pt_write_record(n: u64, s: u64, cells: &[u16], out: &mut [u8], values: &m
 pub fn pt_check_place(rec: &[u8], k: u64) -> u8
     ensures { result ≡ number_in (of_check (place_answer MAX_COUNT rec.now k) 0) }
 {
-    number_in(of_check(records::ideal::check_place(rec, k as usize), 0))
+    number_in(records::ideal::check_place(rec, k as usize))
 }
 
 // The length of the part that holds the monomial at place k, whose bytes stand at the front of `out`.
@@ -37,12 +36,12 @@ pub fn pt_place(rec: &[u8], k: u64, out: &mut [u8], values: &mut [u64; 4]) -> u8
     ensures values_after { values.new ≡ values_in (place_told MAX_PART MAX_COUNT rec.now k out.old) values.old }
 {
     if out.len() < MAX_PART {
-        return tell(Told::Refused(Refusal::Output), values);
+        return number_of(Refusal::Output);
     }
     let part = records::ideal::place(rec, k as usize);
-    copy_front(part, out);
+    out[..part.len()].copy_from_slice(part);
     tell(
-        of_check(records::ideal::check_place(rec, k as usize), part.len()),
+        records::ideal::check_place(rec, k as usize).and(Ok(part.len())),
         values,
     )
 }
@@ -53,50 +52,5 @@ pub fn pt_copy_record(rec: &[u8], cells: &mut [u16], values: &mut [u64; 4]) -> u
     ensures cells_after { cells.new ≡ copy_cells MAX_COUNT rec.now cells.old }
     ensures values_after { values.new ≡ values_in (of_copy (copy_answer MAX_COUNT rec.now cells.old)) values.old }
 {
-    tell(of_copy(records::ideal::copy_record(rec, cells)), values)
-}
-
-// The size.
-fn of_size(answer: SizeAnswer) -> Told
-    ensures { result ≡ of_size answer }
-{
-    let outcome = answer.outcome;
-    match outcome {
-        SizeOutcome::Value(size) => Told::Done(size as u64, 0, 0),
-        SizeOutcome::Refused(refusal) => Told::Refused(refusal),
-    }
-}
-
-// x, where nothing is wrong.
-fn of_check(answer: CheckAnswer, x: usize) -> Told
-    ensures { result ≡ of_check answer x }
-{
-    let outcome = answer.outcome;
-    match outcome {
-        CheckOutcome::Done => Told::Done(x as u64, 0, 0),
-        CheckOutcome::Refused(refusal) => Told::Refused(refusal),
-    }
-}
-
-// The width and the count.
-fn of_copy(answer: CopyAnswer) -> Told
-    ensures { result ≡ of_copy answer }
-{
-    let outcome = answer.outcome;
-    match outcome {
-        CopyOutcome::Value(shape) => Told::Done(shape.n as u64, shape.m as u64, 0),
-        CopyOutcome::Refused(refusal) => Told::Refused(refusal),
-    }
-}
-
-// Copies the part to the front of the output.
-fn copy_front(part: &[u8], out: &mut [u8])
-    requires { length part.now ≤ length out.old }
-    ensures { out.new ≡ part.now ++ drop (length part.now) out.old }
-{
-    let mut i: usize = 0;
-    while i < part.len() {
-        out[i] = part[i];
-        i += 1;
-    }
+    tell(records::ideal::copy_record(rec, cells), values)
 }

@@ -4,8 +4,7 @@ ghost use Rattle.monomials.specs.Mask.{mask_answer};
 ghost use Rattle.bridge.specs.Told.{number_in, values_in};
 ghost use Rattle.bridge.specs.Monomials.{of_mask};
 
-use crate::told::{Told, tell};
-use monomials::divmask::{MaskAnswer, MaskOutcome};
+use crate::told::tell;
 use monomials::refusal::MAX_WIDTH;
 
 // The low word and the high word of the mask.
@@ -13,19 +12,5 @@ pub fn pt_mask(n: u64, max_deg: u16, exps: &[u16], values: &mut [u64; 4]) -> u8
     ensures value { result ≡ number_in (of_mask (mask_answer MAX_WIDTH n max_deg exps.now)) }
     ensures values_after { values.new ≡ values_in (of_mask (mask_answer MAX_WIDTH n max_deg exps.now)) values.old }
 {
-    tell(
-        of_mask(monomials::divmask::mask(n as usize, max_deg, exps)),
-        values,
-    )
-}
-
-// The low word, the high word.
-fn of_mask(answer: MaskAnswer) -> Told
-    ensures { result ≡ of_mask answer }
-{
-    let outcome = answer.outcome;
-    match outcome {
-        MaskOutcome::Value(mask) => Told::Done(mask.low, mask.high, 0),
-        MaskOutcome::Refused(refusal) => Told::Refused(refusal),
-    }
+    tell(monomials::divmask::mask(n as usize, max_deg, exps), values)
 }

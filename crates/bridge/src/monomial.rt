@@ -4,11 +4,7 @@ ghost use Rattle.monomials.specs.Monomial.{degree_answer, exponent_answer, power
 ghost use Rattle.bridge.specs.Told.{number_in, values_in};
 ghost use Rattle.bridge.specs.Monomials.{order_word, of_number, of_write, of_test, of_order};
 
-use crate::told::{Told, bit_of, number_in, tell};
-use monomials::monomial::{
-    NumberAnswer, NumberOutcome, Order, OrderAnswer, OrderOutcome, TestAnswer, TestOutcome,
-    WriteAnswer, WriteOutcome,
-};
+use crate::told::{number_in, tell};
 use monomials::refusal::{MAX_EXPONENT, MAX_WIDTH};
 
 // The degree of a.
@@ -16,7 +12,7 @@ pub fn pt_degree(a: &[u16], values: &mut [u64; 4]) -> u8
     ensures value { result ≡ number_in (of_number (degree_answer MAX_WIDTH a.now)) }
     ensures values_after { values.new ≡ values_in (of_number (degree_answer MAX_WIDTH a.now)) values.old }
 {
-    tell(of_number(monomials::monomial::total_degree(a)), values)
+    tell(monomials::monomial::total_degree(a), values)
 }
 
 // The exponent of variable v in a.
@@ -24,10 +20,7 @@ pub fn pt_exponent(a: &[u16], v: u64, values: &mut [u64; 4]) -> u8
     ensures value { result ≡ number_in (of_number (exponent_answer MAX_WIDTH a.now v)) }
     ensures values_after { values.new ≡ values_in (of_number (exponent_answer MAX_WIDTH a.now v)) values.old }
 {
-    tell(
-        of_number(monomials::monomial::exponent(a, v as usize)),
-        values,
-    )
+    tell(monomials::monomial::exponent(a, v as usize), values)
 }
 
 // Variable v to the x, in n variables.
@@ -35,7 +28,7 @@ pub fn pt_power(n: u64, v: u64, x: u16, out: &mut [u16]) -> u8
     ensures value { result ≡ number_in (of_write (power_answer MAX_WIDTH n v out.old)) }
     ensures out_after { out.new ≡ power_cells MAX_WIDTH n v x out.old }
 {
-    number_in(of_write(monomials::monomial::power(n as usize, v as usize, x, out)))
+    number_in(monomials::monomial::power(n as usize, v as usize, x, out))
 }
 
 // The product of a and b.
@@ -43,7 +36,7 @@ pub fn pt_product(a: &[u16], b: &[u16], out: &mut [u16]) -> u8
     ensures value { result ≡ number_in (of_write (product_answer MAX_WIDTH MAX_EXPONENT a.now b.now out.old)) }
     ensures out_after { out.new ≡ product_cells MAX_WIDTH MAX_EXPONENT a.now b.now out.old }
 {
-    number_in(of_write(monomials::monomial::product(a, b, out)))
+    number_in(monomials::monomial::product(a, b, out))
 }
 
 // a divided by b.
@@ -51,7 +44,7 @@ pub fn pt_quotient(a: &[u16], b: &[u16], out: &mut [u16]) -> u8
     ensures value { result ≡ number_in (of_write (quotient_answer MAX_WIDTH a.now b.now out.old)) }
     ensures out_after { out.new ≡ quotient_cells MAX_WIDTH a.now b.now out.old }
 {
-    number_in(of_write(monomials::monomial::quotient(a, b, out)))
+    number_in(monomials::monomial::quotient(a, b, out))
 }
 
 // The lcm of a and b.
@@ -59,7 +52,7 @@ pub fn pt_lcm(a: &[u16], b: &[u16], out: &mut [u16]) -> u8
     ensures value { result ≡ number_in (of_write (lcm_answer MAX_WIDTH a.now b.now out.old)) }
     ensures out_after { out.new ≡ lcm_cells MAX_WIDTH a.now b.now out.old }
 {
-    number_in(of_write(monomials::monomial::lcm(a, b, out)))
+    number_in(monomials::monomial::lcm(a, b, out))
 }
 
 // The gcd of a and b.
@@ -67,7 +60,7 @@ pub fn pt_gcd(a: &[u16], b: &[u16], out: &mut [u16]) -> u8
     ensures value { result ≡ number_in (of_write (gcd_answer MAX_WIDTH a.now b.now out.old)) }
     ensures out_after { out.new ≡ gcd_cells MAX_WIDTH a.now b.now out.old }
 {
-    number_in(of_write(monomials::monomial::gcd(a, b, out)))
+    number_in(monomials::monomial::gcd(a, b, out))
 }
 
 // 1 where a divides b, else 0.
@@ -75,7 +68,7 @@ pub fn pt_divides(a: &[u16], b: &[u16], values: &mut [u64; 4]) -> u8
     ensures value { result ≡ number_in (of_test (divides_answer MAX_WIDTH a.now b.now)) }
     ensures values_after { values.new ≡ values_in (of_test (divides_answer MAX_WIDTH a.now b.now)) values.old }
 {
-    tell(of_test(monomials::monomial::divides(a, b)), values)
+    tell(monomials::monomial::divides(a, b), values)
 }
 
 // 1 where no variable stands in both, else 0.
@@ -83,7 +76,7 @@ pub fn pt_coprime(a: &[u16], b: &[u16], values: &mut [u64; 4]) -> u8
     ensures value { result ≡ number_in (of_test (coprime_answer MAX_WIDTH a.now b.now)) }
     ensures values_after { values.new ≡ values_in (of_test (coprime_answer MAX_WIDTH a.now b.now)) values.old }
 {
-    tell(of_test(monomials::monomial::is_coprime(a, b)), values)
+    tell(monomials::monomial::is_coprime(a, b), values)
 }
 
 // a against b by Lex: 0 less, 1 equal, 2 greater.
@@ -91,7 +84,7 @@ pub fn pt_lex(a: &[u16], b: &[u16], values: &mut [u64; 4]) -> u8
     ensures value { result ≡ number_in (of_order (lex_answer MAX_WIDTH a.now b.now)) }
     ensures values_after { values.new ≡ values_in (of_order (lex_answer MAX_WIDTH a.now b.now)) values.old }
 {
-    tell(of_order(monomials::monomial::cmp_lex(a, b)), values)
+    tell(monomials::monomial::cmp_lex(a, b), values)
 }
 
 // a against b by DegRevLex: 0 less, 1 equal, 2 greater.
@@ -99,59 +92,5 @@ pub fn pt_degrevlex(a: &[u16], b: &[u16], values: &mut [u64; 4]) -> u8
     ensures value { result ≡ number_in (of_order (degrevlex_answer MAX_WIDTH a.now b.now)) }
     ensures values_after { values.new ≡ values_in (of_order (degrevlex_answer MAX_WIDTH a.now b.now)) values.old }
 {
-    tell(of_order(monomials::monomial::cmp_degrevlex(a, b)), values)
-}
-
-// The number.
-fn of_number(answer: NumberAnswer) -> Told
-    ensures { result ≡ of_number answer }
-{
-    let outcome = answer.outcome;
-    match outcome {
-        NumberOutcome::Value(x) => Told::Done(x, 0, 0),
-        NumberOutcome::Refused(refusal) => Told::Refused(refusal),
-    }
-}
-
-// Nothing but zeros.
-fn of_write(answer: WriteAnswer) -> Told
-    ensures { result ≡ of_write answer }
-{
-    let outcome = answer.outcome;
-    match outcome {
-        WriteOutcome::Written => Told::Done(0, 0, 0),
-        WriteOutcome::Refused(refusal) => Told::Refused(refusal),
-    }
-}
-
-// 1 for yes, 0 for no.
-fn of_test(answer: TestAnswer) -> Told
-    ensures { result ≡ of_test answer }
-{
-    let outcome = answer.outcome;
-    match outcome {
-        TestOutcome::Value(b) => Told::Done(bit_of(b), 0, 0),
-        TestOutcome::Refused(refusal) => Told::Refused(refusal),
-    }
-}
-
-// 0 for less, 1 for equal, 2 for greater.
-fn of_order(answer: OrderAnswer) -> Told
-    ensures { result ≡ of_order answer }
-{
-    let outcome = answer.outcome;
-    match outcome {
-        OrderOutcome::Value(order) => Told::Done(order_word(order), 0, 0),
-        OrderOutcome::Refused(refusal) => Told::Refused(refusal),
-    }
-}
-
-fn order_word(order: Order) -> u64
-    ensures { result ≡ order_word order }
-{
-    match order {
-        Order::Less => 0,
-        Order::Equal => 1,
-        Order::Greater => 2,
-    }
+    tell(monomials::monomial::cmp_degrevlex(a, b), values)
 }

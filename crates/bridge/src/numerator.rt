@@ -5,9 +5,8 @@ ghost use Rattle.numbers.specs.Update.{update_answer, update_room, update_first,
 ghost use Rattle.bridge.specs.Told.{number_in, values_in};
 ghost use Rattle.bridge.specs.Numbers.{of_length};
 
-use crate::told::{Told, tell};
+use crate::told::tell;
 use monomials::refusal::{MAX_COUNT, MAX_WIDTH};
-use numbers::numerator::{LengthAnswer, LengthOutcome};
 use numbers::update::MAX_COEFFICIENT;
 
 // The trimmed length of the numerator of the s monomials in `cells`, whose coefficients stand in `first`.
@@ -27,9 +26,7 @@ pub fn pt_numerator(
     ensures values_after { values.new ≡ values_in (of_length (numerator_answer MAX_WIDTH MAX_COUNT n s cells.now room.old first.old second.old)) values.old }
 {
     tell(
-        of_length(numbers::numerator::hilbert_numerator(
-            n as usize, s as usize, cells, room, first, second,
-        )),
+        numbers::numerator::hilbert_numerator(n as usize, s as usize, cells, room, first, second),
         values,
     )
 }
@@ -54,7 +51,7 @@ pub fn pt_update(
     ensures values_after { values.new ≡ values_in (of_length (update_answer MAX_WIDTH MAX_COUNT MAX_COEFFICIENT n g.now s0 existing.now s1 added.now room.old first.old second.old)) values.old }
 {
     tell(
-        of_length(numbers::update::add_generators(
+        numbers::update::add_generators(
             n as usize,
             g,
             s0 as usize,
@@ -64,18 +61,7 @@ pub fn pt_update(
             room,
             first,
             second,
-        )),
+        ),
         values,
     )
-}
-
-// The length.
-fn of_length(answer: LengthAnswer) -> Told
-    ensures { result ≡ of_length answer }
-{
-    let outcome = answer.outcome;
-    match outcome {
-        LengthOutcome::Value(k) => Told::Done(k as u64, 0, 0),
-        LengthOutcome::Refused(refusal) => Told::Refused(refusal),
-    }
 }

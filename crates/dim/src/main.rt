@@ -39,6 +39,7 @@ fn answer_to(input: &[u8]) -> [u8; ANSWER_SIZE]
     ensures { result ≡ dim_bytes MAX_WIDTH MAX_COUNT MAX_DEGREE ANSWER_SIZE input.now }
 {
     let mut out = [0u8; ANSWER_SIZE];
-    answer_record(input, &mut out);
+    // what it refuses stands in the record
+    let _ = answer_record(input, &mut out);
     out
 }

@@ -1,21 +1,19 @@
 -- Laws of writing bytes into a list, a run of places at a time: `sets l i vs` is l with vs from place i on.
 --   sets_append                  a run after a run
---   sets_before                  one byte before a run
 --   sets_front                   a run from the start
---   put_next, rest_next          the bytes of a number, the last first, a byte at a time
 --   big_endian_append             the bytes of a number in two runs
 --   big_endian_words              sixteen bytes of a number of two words
 --   monomial_bytes_next, exponent_bytes_next    the bytes of one exponent more, and of one monomial more
 --   written_sets, answer_sets    a record written part by part, over what an output held
 use mathlib.Core.Path.{◌≡◌, refl, sym, ap, ap₂, ◌∙◌}
 use mathlib.Core.List.{List, [], ◌∷◌, ◌++◌, append_assoc, append-nil}
-use Prim.Native.Nat.{ℕ, zero, suc, ◌+◌, ◌*◌, ◌-◌, ◌≤◌, ◌<◌, ◌/◌, ◌%◌, ◌^◌}
+use Prim.Native.Nat.{ℕ, zero, suc, ◌+◌, ◌*◌, ◌≤◌, ◌<◌, ◌/◌, ◌%◌, ◌^◌}
 use native.Mathlib.Omega.{arith}
-use native.Mathlib.Nat.{add-zero, pow-succ', mul_comm, div-div-eq-div-mul}
+use native.Mathlib.Nat.{add-zero, mul_comm, div-div-eq-div-mul}
 use lib.Arith.{digits_div}
 use lib.Pow.{pow-add}
 use lib.ListN.{length, get_or, take, drop, set}
-use lib.Seq.{sets, sets-eq, set_comm}
+use lib.Seq.{sets, sets-eq}
 use Rattle.laws.specs.Ideal.{Width}
 use Rattle.laws.specs.Record.{big_endian, framed, monomial_bytes, exponent_bytes, header, written, answer_record}
 use Rattle.laws.proofs.Monomial.{cons_eq}
@@ -28,14 +26,6 @@ pub sets_append : (l : List ℕ) (i : ℕ) (a b : List ℕ) → sets l i (a ++ b
 sets_append l i [] b = ap (λ (j : ℕ). sets l j b) (sym (add-zero i))
 sets_append l i (x ∷ a) b = sets_append (set l i x) (suc i) a b ∙ ap (λ (j : ℕ). sets (sets (set l i x) (suc i) a) j b) (omega arith)
 
-set_sets : (l : List ℕ) (i j x : ℕ) (vs : List ℕ) → i < j → set (sets l j vs) i x ≡ sets (set l i x) j vs
-set_sets l i j x [] h = refl
-set_sets l i j x (v ∷ vs) h = set_sets (set l j v) i (suc j) x vs (omega arith) ∙ ap (λ (r : List ℕ). sets r (suc j) vs) (set_comm l j i v x (λ e. omega arith))
-
--- x before vs
-pub sets_before : (l : List ℕ) (i x : ℕ) (vs : List ℕ) → set (sets l (suc i) vs) i x ≡ sets l i (x ∷ vs)
-sets_before l i x vs = set_sets l i (suc i) x vs (omega arith)
-
 -- from the start
 pub sets_front : (l vs : List ℕ) → length vs ≤ length l → sets l 0 vs ≡ vs ++ drop (length vs) l
 sets_front l vs h =
@@ -43,20 +33,6 @@ sets_front l vs h =
     sets-eq vs l 0 (omega arith) ∙ ap (λ (j : ℕ). vs ++ drop j l) e
 
 -- numbers
-
--- after the last k − i bytes, one more
-pub put_next : (l : List ℕ) (at i k x : ℕ) → 0 < i → i ≤ k
-    → set (sets l (at + i) (big_endian (k - i) x)) (at + (i - 1)) (x / 256 ^ (k - i) % 256) ≡ sets l (at + (i - 1)) (big_endian (k - (i - 1)) x)
-put_next l at i k x h g =
-    let p : at + i ≡ suc (at + (i - 1)) = omega arith in
-    let q : k - (i - 1) ≡ suc (k - i) = omega arith in
-    rw (p, q) (sets_before l (at + (i - 1)) (x / 256 ^ (k - i) % 256) (big_endian (k - i) x))
-
--- and what is left of the number
-pub rest_next : (i k x : ℕ) → 0 < i → i ≤ k → x / 256 ^ (k - i) / 256 ≡ x / 256 ^ (k - (i - 1))
-rest_next i k x h g =
-    let q : k - (i - 1) ≡ suc (k - i) = omega arith in
-    div-div-eq-div-mul x (256 ^ (k - i)) 256 ∙ ap (λ (j : ℕ). x / j) (mul_comm (256 ^ (k - i)) 256 ∙ sym (pow-succ' 256 (k - i)) ∙ ap (λ (j : ℕ). 256 ^ j) (sym q))
 
 -- the first a bytes, and the other b
 pub big_endian_append : (a b x : ℕ) → big_endian (a + b) x ≡ big_endian a (x / 256 ^ b) ++ big_endian b x

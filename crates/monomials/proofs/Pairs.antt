@@ -1,116 +1,134 @@
--- What the private loops over two monomials do, in the words of the crate laws.
---   order_same                               equal orders in the code are equal comparisons
---   all_pass, all_stop, all_end              a test of each variable, from variable i on
---   zip_length, zip_cell                     what is made of two monomials: its width, one variable
---   all_divides, all_divisor, all_coprime, all_fits  the four tests, on equal widths
---   zip_product, zip_quotient, zip_lcm, zip_gcd  the four monomials that are written, on equal widths
+-- What std's words on two lists are in the words of the crate laws.
+--   degree_sum                          a degree as a sum
+--   all_divides, all_coprime, all_fits  tests of each pair of exponents, on equal widths
+--   sum_fits                            what the last of them says of one pair
+--   product_cells, quotient_cells, lcm_cells, gcd_cells  a list that holds what is made of each pair, on equal widths
+--   cmp_numbers, cmp_lex, cmp_revlex    the orders
 -- Assumes nothing.
-use mathlib.Core.Path.{◌≡◌, refl, ap}
-use mathlib.Core.Bool.{Bool, true, false, ◌&&◌}
-use mathlib.Core.List.{List, [], ◌∷◌}
-use Prim.Native.Nat.{ℕ, zero, suc, ◌+◌, ◌≤◌, ◌<◌, Ordering}
-use native.Mathlib.Nat.{mod-eq_of_lt}
+use mathlib.Core.Path.{◌≡◌, refl, sym, ap, ap₂, ◌∙◌}
+use mathlib.Core.Bool.{Bool, true, ◌&&◌, ◌||◌}
+use mathlib.Core.List.{List, [], ◌∷◌, ◌++◌, reverse}
+use Prim.Native.Nat.{ℕ, zero, suc, ◌+◌, ◌-◌, ◌≤◌, ◌<◌, max, min, compare, Ordering}
 use native.Mathlib.Omega.{arith}
-use lib.Dec.{leb}
-use lib.ListN.{length, get_or, drop, drop_of_length-le}
-use Rattle.laws.specs.Monomial.{divides, product, quotient, lcm, gcd, coprime}
-use Rattle.laws.proofs.Lists.{drop_next}
+use lib.Dec.{leb, eqb}
+use lib.ListN.{length, get_or}
+use Rattle.std.specs.List.{zip, list_all, sum_by}
+use Rattle.std.specs.Ordering.{nat_cmp, ordering_then}
+use Rattle.std.specs.declared.cmp.Ordering.{Ordering as Order}
+use Rattle.std.specs.declared.cmp.Ordering.TheVariants.{Less, Equal, Greater}
+use Rattle.std.specs.Cmp.{nat_cmp_is}
+use Rattle.std.specs.Cmp.Lexicographic.{slice_cmp}
+use Rattle.std.proofs.lemmas.Grind.{reverse_onto}
+use Rattle.std.proofs.lemmas.List.{length-reverse}
+use Rattle.std.proofs.lemmas.List.Sums.{sum_by-cons}
+use Rattle.laws.specs.Monomial.{degree, divides, product, quotient, lcm, gcd, coprime}
+use Rattle.laws.specs.Order.{or_else, lex, revlex}
 use Rattle.laws.proofs.Monomial.{and_right, head_le, cons_eq}
-use Rattle.monomials.specs.Cells.{passes_of, combined_of, all_cells, zip_cells}
+use Rattle.laws.proofs.Order.{Says, compare_says}
 use Rattle.monomials.specs.Monomial.{order_of, at_most}
-use Rattle.monomials.specs.declared.cells.Test.TheVariants.{AtMost, AtLeast, Apart, SumFits}
-use Rattle.monomials.specs.declared.cells.Combine.TheVariants.{Sum, Difference, Greater, Smaller}
 
-pub order_same : (o p : Ordering) → order_of o ≡ order_of p → o ≡ p
-order_same Ordering.lt Ordering.lt e = refl
-order_same Ordering.lt Ordering.eq e = cc
-order_same Ordering.lt Ordering.gt e = cc
-order_same Ordering.eq Ordering.lt e = cc
-order_same Ordering.eq Ordering.eq e = refl
-order_same Ordering.eq Ordering.gt e = cc
-order_same Ordering.gt Ordering.lt e = cc
-order_same Ordering.gt Ordering.eq e = cc
-order_same Ordering.gt Ordering.gt e = refl
-
-module _ (p : ℕ → ℕ → Bool) (a b : List ℕ) (i : ℕ) where
-  -- the test of variable i, and of those after it
-  all_next : i < length a → i < length b → all_cells p (drop i a) (drop i b) ≡ (p (get_or a i 0) (get_or b i 0) && all_cells p (drop (i + 1) a) (drop (i + 1) b))
-  all_next h k = rw (drop_next a i h, drop_next b i k)
-
-  -- where variable i passes, those after it decide
-  pub all_pass : i < length a → i < length b → p (get_or a i 0) (get_or b i 0) ≡ true → all_cells p (drop i a) (drop i b) ≡ all_cells p (drop (i + 1) a) (drop (i + 1) b)
-  all_pass h k e = rw (all_next h k, e)
-
-  -- where it does not, it decides
-  pub all_stop : i < length a → i < length b → p (get_or a i 0) (get_or b i 0) ≡ false → all_cells p (drop i a) (drop i b) ≡ false
-  all_stop h k e = rw (all_next h k, e)
-
-  -- none is left
-  pub all_end : length a ≤ i → all_cells p (drop i a) (drop i b) ≡ true
-  all_end h = rw (drop_of_length-le a h)
-
-module _ (f : ℕ → ℕ → ℕ) where
-  -- the width of what is made
-  pub zip_length : (a b : List ℕ) → length b ≡ length a → length (zip_cells f a b) ≡ length a
-  zip_length [] b e = refl
-  zip_length (x ∷ a) [] e = absurd (omega arith)
-  zip_length (x ∷ a) (y ∷ b) e = ap suc (zip_length a b (omega arith))
-
-  -- one variable of it
-  pub zip_cell : (a b : List ℕ) (i : ℕ) → i < length a → i < length b → get_or (zip_cells f a b) i 0 ≡ f (get_or a i 0) (get_or b i 0)
-  zip_cell [] b i h k = absurd (omega arith)
-  zip_cell (x ∷ a) [] i h k = absurd (omega arith)
-  zip_cell (x ∷ a) (y ∷ b) zero h k = refl
-  zip_cell (x ∷ a) (y ∷ b) (suc i) h k = zip_cell a b i (omega arith) (omega arith)
+pub degree_sum : (a : List ℕ) → sum_by (λ x. x) a ≡ degree a
+degree_sum [] = refl
+degree_sum (x ∷ a) = sum_by-cons (λ x. x) x a ∙ ap (λ n. x + n) (degree_sum a)
 
 -- the tests
 
-pub all_divides : (E : ℕ) (a b : List ℕ) → length b ≡ length a → all_cells (passes_of E AtMost) a b ≡ divides a b
-all_divides E [] b e = refl
-all_divides E (x ∷ a) [] e = absurd (omega arith)
-all_divides E (x ∷ a) (y ∷ b) e = ap (λ (t : Bool). leb x y && t) (all_divides E a b (omega arith))
+pub all_divides : (a b : List ℕ) → length b ≡ length a → list_all (λ (p : ℕ × ℕ). leb p.0 p.1) (zip a b) ≡ divides a b
+all_divides [] b e = refl
+all_divides (x ∷ a) [] e = absurd (omega arith)
+all_divides (x ∷ a) (y ∷ b) e = ap (λ (t : Bool). leb x y && t) (all_divides a b (omega arith))
 
-pub all_divisor : (E : ℕ) (a b : List ℕ) → length b ≡ length a → all_cells (passes_of E AtLeast) a b ≡ divides b a
-all_divisor E [] [] e = refl
-all_divisor E [] (y ∷ b) e = absurd (omega arith)
-all_divisor E (x ∷ a) [] e = absurd (omega arith)
-all_divisor E (x ∷ a) (y ∷ b) e = ap (λ (t : Bool). leb y x && t) (all_divisor E a b (omega arith))
+pub all_coprime : (a b : List ℕ) → list_all (λ (p : ℕ × ℕ). eqb p.0 0 || eqb p.1 0) (zip a b) ≡ coprime a b
+all_coprime [] b = refl
+all_coprime (x ∷ a) [] = refl
+all_coprime (x ∷ a) (y ∷ b) = ap (λ (t : Bool). (eqb x 0 || eqb y 0) && t) (all_coprime a b)
 
-pub all_coprime : (E : ℕ) (a b : List ℕ) → all_cells (passes_of E Apart) a b ≡ coprime a b
-all_coprime E [] b = refl
-all_coprime E (x ∷ a) [] = refl
-all_coprime E (x ∷ a) (y ∷ b) = rw (all_coprime E a b)
-
-pub all_fits : (E : ℕ) (a b : List ℕ) → length b ≡ length a → all_cells (passes_of E SumFits) a b ≡ at_most E (product a b)
+pub all_fits : (E : ℕ) (a b : List ℕ) → length b ≡ length a → list_all (λ (p : ℕ × ℕ). leb (p.0 + p.1) E) (zip a b) ≡ at_most E (product a b)
 all_fits E [] [] e = refl
 all_fits E [] (y ∷ b) e = absurd (omega arith)
 all_fits E (x ∷ a) [] e = absurd (omega arith)
 all_fits E (x ∷ a) (y ∷ b) e = ap (λ (t : Bool). leb (x + y) E && t) (all_fits E a b (omega arith))
 
+-- so each sum fits
+pub sum_fits : (E : ℕ) (a b : List ℕ) (k : ℕ) → at_most E (product a b) ≡ true → k < length a → k < length b → get_or a k 0 + get_or b k 0 ≤ E
+sum_fits E [] b k h i j = absurd (omega arith)
+sum_fits E (x ∷ a) [] k h i j = absurd (omega arith)
+sum_fits E (x ∷ a) (y ∷ b) zero h i j = head_le (x + y) E (at_most E (product a b)) h
+sum_fits E (x ∷ a) (y ∷ b) (suc k) h i j = sum_fits E a b k (and_right (leb (x + y) E) (at_most E (product a b)) h) (omega arith) (omega arith)
+
 -- the monomials that are written
 
--- a sum that fits a cell is not cut
-pub zip_product : (a b : List ℕ) → length b ≡ length a → at_most 65535 (product a b) ≡ true → zip_cells (combined_of Sum) a b ≡ product a b
-zip_product [] [] e h = refl
-zip_product [] (y ∷ b) e h = absurd (omega arith)
-zip_product (x ∷ a) [] e h = absurd (omega arith)
-zip_product (x ∷ a) (y ∷ b) e h =
-    cons_eq (mod-eq_of_lt (omega (arith, head_le (x + y) 65535 (at_most 65535 (product a b)) h)))
-    (zip_product a b (omega arith) (and_right (leb (x + y) 65535) (at_most 65535 (product a b)) h))
+module _ (f : ℕ → ℕ → ℕ) (g : List ℕ → List ℕ → List ℕ) (none : g [] [] ≡ []) (more : (x y : ℕ) (a b : List ℕ) → g (x ∷ a) (y ∷ b) ≡ f x y ∷ g a b) where
+  -- each cell decides
+  by_cells : (a b out : List ℕ) → length b ≡ length a → length out ≡ length a → ((k : ℕ) → k < length a → get_or out k 0 ≡ f (get_or a k 0) (get_or b k 0)) → out ≡ g a b
+  by_cells [] [] [] e d h = sym none
+  by_cells [] [] (z ∷ out) e d h = absurd (omega arith)
+  by_cells [] (y ∷ b) out e d h = absurd (omega arith)
+  by_cells (x ∷ a) [] out e d h = absurd (omega arith)
+  by_cells (x ∷ a) (y ∷ b) [] e d h = absurd (omega arith)
+  by_cells (x ∷ a) (y ∷ b) (z ∷ out) e d h = cons_eq (h 0 (omega arith)) (by_cells a b out (omega arith) (omega arith) (λ k l. h (suc k) (omega arith))) ∙ sym (more x y a b)
 
-pub zip_quotient : (a b : List ℕ) → length b ≡ length a → zip_cells (combined_of Difference) a b ≡ quotient a b
-zip_quotient [] [] e = refl
-zip_quotient [] (y ∷ b) e = refl
-zip_quotient (x ∷ a) [] e = absurd (omega arith)
-zip_quotient (x ∷ a) (y ∷ b) e = cons_eq refl (zip_quotient a b (omega arith))
+-- such a list, and what is asked of its cells
+abbrev Cells : (ℕ → ℕ → ℕ) → (List ℕ → List ℕ → List ℕ) → Type 0
+Cells f g = (a b out : List ℕ) → length b ≡ length a → length out ≡ length a → ((k : ℕ) → k < length a → get_or out k 0 ≡ f (get_or a k 0) (get_or b k 0)) → out ≡ g a b
 
-pub zip_lcm : (a b : List ℕ) → length b ≡ length a → zip_cells (combined_of Greater) a b ≡ lcm a b
-zip_lcm [] [] e = refl
-zip_lcm [] (y ∷ b) e = absurd (omega arith)
-zip_lcm (x ∷ a) [] e = absurd (omega arith)
-zip_lcm (x ∷ a) (y ∷ b) e = cons_eq refl (zip_lcm a b (omega arith))
+pub product_cells : Cells ◌+◌ product
+product_cells = by_cells ◌+◌ product refl (λ x y a b. refl)
 
-pub zip_gcd : (a b : List ℕ) → zip_cells (combined_of Smaller) a b ≡ gcd a b
-zip_gcd [] b = refl
-zip_gcd (x ∷ a) [] = refl
-zip_gcd (x ∷ a) (y ∷ b) = cons_eq refl (zip_gcd a b)
+pub quotient_cells : Cells ◌-◌ quotient
+quotient_cells = by_cells ◌-◌ quotient refl (λ x y a b. refl)
+
+pub lcm_cells : Cells max lcm
+lcm_cells = by_cells max lcm refl (λ x y a b. refl)
+
+pub gcd_cells : Cells min gcd
+gcd_cells = by_cells min gcd refl (λ x y a b. refl)
+
+-- the orders
+
+pub cmp_numbers : (x y : ℕ) → nat_cmp x y ≡ order_of (compare x y)
+cmp_numbers x y = go (compare x y) (compare_says (compare x y) x y refl)
+  where
+    go : (o : Ordering) → Says o x y → nat_cmp x y ≡ order_of o
+    go Ordering.lt h = sym (nat_cmp_is x y _ h)
+    go Ordering.eq h = sym (nat_cmp_is x y _ h)
+    go Ordering.gt h = sym (nat_cmp_is x y _ h)
+
+then_or_else : (o p : Ordering) → ordering_then (order_of o) (order_of p) ≡ order_of (or_else o p)
+then_or_else Ordering.lt p = refl
+then_or_else Ordering.eq p = refl
+then_or_else Ordering.gt p = refl
+
+pub cmp_lex : (a b : List ℕ) → slice_cmp nat_cmp a b ≡ order_of (lex a b)
+cmp_lex [] [] = refl
+cmp_lex [] (y ∷ b) = refl
+cmp_lex (x ∷ a) [] = refl
+cmp_lex (x ∷ a) (y ∷ b) = rw (cmp_numbers x y, cmp_lex a b) (then_or_else (compare x y) (lex a b))
+
+then_equal : (o : Order) → ordering_then o Equal ≡ o
+then_equal Less = refl
+then_equal Equal = refl
+then_equal Greater = refl
+
+then_assoc : (o p q : Order) → ordering_then o (ordering_then p q) ≡ ordering_then (ordering_then o p) q
+then_assoc Less p q = refl
+then_assoc Equal p q = refl
+then_assoc Greater p q = refl
+
+-- one pair more behind two lists of one length
+cmp_last : (s t : List ℕ) (x y : ℕ) → length t ≡ length s → slice_cmp nat_cmp (s ++ x ∷ []) (t ++ y ∷ []) ≡ ordering_then (slice_cmp nat_cmp s t) (nat_cmp x y)
+cmp_last [] [] x y e = then_equal (nat_cmp x y)
+cmp_last [] (v ∷ t) x y e = absurd (omega arith)
+cmp_last (u ∷ s) [] x y e = absurd (omega arith)
+cmp_last (u ∷ s) (v ∷ t) x y e =
+    ap (ordering_then (nat_cmp u v)) (cmp_last s t x y (omega arith)) ∙ then_assoc (nat_cmp u v) (slice_cmp nat_cmp s t) (nat_cmp x y)
+
+pub cmp_revlex : (a b : List ℕ) → length b ≡ length a → slice_cmp nat_cmp (reverse b) (reverse a) ≡ order_of (revlex a b)
+cmp_revlex [] [] e = refl
+cmp_revlex [] (y ∷ b) e = absurd (omega arith)
+cmp_revlex (x ∷ a) [] e = absurd (omega arith)
+cmp_revlex (x ∷ a) (y ∷ b) e =
+    ap₂ (slice_cmp nat_cmp) (reverse_onto b y []) (reverse_onto a x [])
+    ∙ cmp_last (reverse b) (reverse a) y x (omega (arith, length-reverse b, length-reverse a))
+    ∙ ap₂ ordering_then (cmp_revlex a b (omega arith)) (cmp_numbers y x)
+    ∙ then_or_else (revlex a b) (compare y x)

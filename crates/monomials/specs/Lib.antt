@@ -1,5 +1,4 @@
 -- What the contracts of layer 1 cite, over the definitions of the crate laws.
 pub mod Refusal
 pub mod Monomial
-pub mod Cells
 pub mod Mask

@@ -3,9 +3,10 @@
 --   Check         == a condition, and the refusal that it asks for
 --   refusal cs    == the first refusal whose condition holds, if any
 --   too_wide W n   == check 1 of every call: the width n is above W
+--   answer r x    == a call's answer: x where nothing was refused, else the refusal
 --   after r y x   == what a lent slice holds: y where nothing was refused, else x, what it held
 -- Assumes nothing.
-use Rattle.std.specs.Prelude.{Bool, cond, List, [], ◌∷◌, ℕ, ltb}
+use Rattle.std.specs.Prelude.{Bool, cond, List, [], ◌∷◌, ℕ, ltb, Result, Ok, Err}
 use Rattle.std.proofs.Math.Option.{Option, none, some}
 use Rattle.monomials.specs.declared.refusal.Refusal.{Refusal}
 use Rattle.monomials.specs.declared.refusal.Refusal.TheVariants.{Width, Count, Cells, Place, Exponent, Division, CellRoom, CoefficientRoom, SumRoom, Degree, Value, Record, Dimension, Output, Coefficient}
@@ -36,6 +37,10 @@ refusal (c ∷ cs) = cond c.0 (some c.1) (refusal cs)
 
 abbrev pub too_wide : ℕ → ℕ → Check
 too_wide W n = (ltb W n, Width)
+
+abbrev pub answer : {A : Type 0} → Option Refusal → A → Result A Refusal
+answer none x = Ok x
+answer (some r) x = Err r
 
 abbrev pub after : {A : Type 0} → Option Refusal → A → A → A
 after none y x = y

@@ -4,42 +4,24 @@ ghost use Rattle.laws.specs.Monomial.{exponent};
 ghost use Rattle.laws.specs.Mask.{bits_each, threshold, mask_bit, word_of, consistent};
 ghost use Rattle.monomials.specs.Mask.{mask_answer, words};
 
-use crate::refusal::{MAX_WIDTH, Refusal};
+use crate::refusal::{MAX_WIDTH, Refusal, check_width};
 
-// The low and the high word.
-#[derive(Clone, Copy)]
+// The low and the high word: no u128, since C is told them word by word.
+#[derive(Clone, Copy, PartialEq, Eq)]
 pub struct DivMask {
     pub low: u64,
     pub high: u64,
 }
 
-// A mask, or why there is none.
-#[derive(Clone, Copy)]
-pub enum MaskOutcome {
-    Value(DivMask),
-    Refused(Refusal),
-}
-
-#[derive(Clone, Copy)]
-pub struct MaskAnswer {
-    pub outcome: MaskOutcome,
-}
-
 // The mask of a monomial of width n, with thresholds spread up to max_deg. Missing exponents are 0, those past n are ignored.
-pub fn mask(n: usize, max_deg: u16, exps: &[u16]) -> MaskAnswer
+pub fn mask(n: usize, max_deg: u16, exps: &[u16]) -> Result<DivMask, Refusal>
     ensures { result ≡ mask_answer MAX_WIDTH n max_deg exps.now }
 {
-    if MAX_WIDTH < n {
-        return MaskAnswer {
-            outcome: MaskOutcome::Refused(Refusal::Width),
-        };
-    }
-    MaskAnswer {
-        outcome: MaskOutcome::Value(DivMask {
-            low: mask_word(n, max_deg, exps, 0),
-            high: mask_word(n, max_deg, exps, 64),
-        }),
-    }
+    check_width(n)?;
+    Ok(DivMask {
+        low: mask_word(n, max_deg, exps, 0),
+        high: mask_word(n, max_deg, exps, 64),
+    })
 }
 
 // Whether each bit of a is set in b: necessary for a monomial with mask a to divide one with mask b.
@@ -56,12 +38,10 @@ fn mask_word(n: usize, max_deg: u16, exps: &[u16], start: usize) -> u64
     ensures { result ≡ word_of (λ i. mask_bit n max_deg exps.now (start + i)) 64 }
 {
     let mut word: u64 = 0;
-    let mut i: usize = 0;
-    while i < 64 {
+    for i in 0..64 {
         if mask_bit(n, max_deg, exps, start + i) {
             word += 1u64 << i;
         }
-        i += 1;
     }
     word
 }
@@ -88,10 +68,7 @@ fn mask_bit(n: usize, max_deg: u16, exps: &[u16], i: usize) -> bool
 fn bits_each(n: usize) -> usize
     ensures { (result ≡ bits_each n) × (1 ≤ result) × (result ≤ 128) }
 {
-    if n == 0 {
-        return 1;
-    }
-    if 128 < n { 1 } else { 128 / n }
+    if n == 0 || 128 < n { 1 } else { 128 / n }
 }
 
 // Threshold k of each variable.
@@ -99,13 +76,12 @@ fn threshold_of(each: usize, max_deg: u16, k: usize) -> u64
     requires { (1 ≤ each) × (each ≤ 128) × (k < each) }
     ensures { result ≡ threshold each max_deg k }
 {
-    let most: u64 = if max_deg == 0 { 1 } else { max_deg as u64 };
-    ((k as u64) + 1) * most / (each as u64)
+    (k as u64 + 1) * u64::from(max_deg.max(1)) / each as u64
 }
 
 // The exponent of variable v, 0 where it is missing.
 fn exponent_at(exps: &[u16], v: usize) -> u64
     ensures { result ≡ exponent exps.now v }
 {
-    if v < exps.len() { exps[v] as u64 } else { 0 }
+    exps.get(v).map_or(0, |x| u64::from(*x))
 }

@@ -1,4 +1,4 @@
-// Layer 1: monomials, their two orders and divisibility masks. Every call checks its own input and refuses by number.
+// Layer 1: monomials, their two orders and divisibility masks. Every call checks its own input and refuses by a numbered `Refusal`.
 #![tactic(auto)]
 
 mod cells;

@@ -11,9 +11,9 @@
 --   sought-..                 the loop that looks for x in the cells from a on; found-..: what it has found
 --   turned-..                 one turn of the loop over the cells
 --   grid                      a sum over the cells, variable by variable
---   pairs_all, degree_all     what a list adds to the list behind it; pairs_both, degree_both: both lists; one_measured, added_measured: one alone
---   ..-fits, ..-in            the sums, products and places of the loops
-use Rattle.std.proofs.Common.{◌≡◌, ℕ, zero, suc, ◌+◌, ◌-◌, ◌*◌, ◌/◌, ◌%◌, ◌<◌, ◌≤◌, max, Bool, true, false, cond, ◌||◌, eqb, ◌⊎◌, List, [], ◌∷◌, ◌++◌, length, get_or, drop, sym, refl, ap, ◌∙◌, subst, ap₂, inl, inr, append-nil, mod-lt, mod-eq_of_lt, suc-mul, div-lt_iff_lt-mul, add-mul, mul-zero, div-add-mod', le-div_iff_mul-le, zero-mul, add-one, arith, w64, Fits, eq-eqb, ne_eqb}
+--   pairs_all, degree_all     what a list adds to the list behind it; pairs_both, degree_both: both lists; added_measured: the first alone
+--   pairs_least, .., degrees_most   how large the sums get, and the product of them
+use Rattle.std.proofs.Common.{◌≡◌, ℕ, zero, suc, ◌+◌, ◌-◌, ◌*◌, ◌/◌, ◌%◌, ◌<◌, ◌≤◌, max, Bool, true, false, cond, ◌||◌, eqb, ◌⊎◌, List, [], ◌∷◌, ◌++◌, length, get_or, drop, sym, refl, ap, ◌∙◌, ap₂, inl, inr, append-nil, mod-lt, mod-eq_of_lt, suc-mul, div-lt_iff_lt-mul, add-mul, mul-zero, div-add-mod', le-div_iff_mul-le, zero-mul, add-one, arith, w64, Fits, eq-eqb, ne_eqb}
 use native.Mathlib.Nat.{div-eq_of_lt, add-div_right, add-mod_right, add-mul-div_right, add-mul-mod_self_right}
 use Rattle.laws.specs.Ideal.{listed}
 use Rattle.laws.specs.Room.{cells_asked, column, coefficients_asked, distinct, holds, pairs}
@@ -78,9 +78,6 @@ Sought n L a x best k = (k % n ≡ a % n) × (holds x (from n L a) ≡ holds x (
 abbrev pub Found : ℕ → List (List ℕ) → ℕ → ℕ → ℕ → Type 0
 Found n L a x r = r ≡ cond (holds x (from n L a)) x (greatest (from n L a))
 
-pub sought_none : (n : ℕ) (L : List (List ℕ)) (a x : ℕ) → Sought n L a x 0 a
-sought_none n L a x = (refl, refl, omega arith)
-
 module _ {n s t : ℕ} {xs ys : List ℕ} (l : Lists n s xs t ys) (z : 0 < n) (a x best k : ℕ) (q : Sought n (both n s xs t ys) a x best k) where
   module _ (g : k < s * n + t * n) (y : ℕ) (e : y ≡ cell_at n (both n s xs t ys) k) where
     here : holds x (from n (both n s xs t ys) k) ≡ (eqb x y || holds x (behind n (both n s xs t ys) k))
@@ -139,7 +136,7 @@ module _ {n s t : ℕ} {xs ys : List ℕ} (l : Lists n s xs t ys) (k pairs degre
     (ep : pairs ≡ sum_below k (new_pair n (both n s xs t ys))) (ed : degree ≡ sum_below k (new_degree n (both n s xs t ys)))
     (bp : pairs ≤ k) (bd : degree ≤ k * 65535) (x : ℕ) (e : x ≡ get_or xs k 0) where
   abbrev pub Turned : ℕ → ℕ → Type 0
-  Turned p d = (k + 1 ≤ s * n) × (p ≡ sum_below (k + 1) (new_pair n (both n s xs t ys))) × (d ≡ sum_below (k + 1) (new_degree n (both n s xs t ys))) × (p ≤ k + 1) × (d ≤ (k + 1) * 65535)
+  Turned p d = (p ≡ sum_below (k + 1) (new_pair n (both n s xs t ys))) × (d ≡ sum_below (k + 1) (new_degree n (both n s xs t ys))) × (p ≤ k + 1) × (d ≤ (k + 1) * 65535)
 
   wide : 0 < n
   wide = variables n s k g
@@ -151,7 +148,7 @@ module _ {n s t : ℕ} {xs ys : List ℕ} (l : Lists n s xs t ys) (k pairs degre
   turned p d fp fd lp ld np nd =
       let a : pairs + (p - pairs) ≡ p = omega arith in
       let b : degree + (d - degree) ≡ d = omega arith in
-      (omega arith, sym a ∙ sum_below_next k pairs (p - pairs) (new_pair n (both n s xs t ys)) (sym fp) ep, sym b ∙ sum_below_next k degree (d - degree) (new_degree n (both n s xs t ys)) (sym fd) ed, np, nd)
+      (sym a ∙ sum_below_next k pairs (p - pairs) (new_pair n (both n s xs t ys)) (sym fp) ep, sym b ∙ sum_below_next k degree (d - degree) (new_degree n (both n s xs t ys)) (sym fd) ed, np, nd)
 
   pub turned_zero : (p d : ℕ) → x ≡ 0 → p ≡ pairs → d ≡ degree → Turned p d
   turned_zero p d h fp fd =
@@ -166,7 +163,7 @@ module _ {n s t : ℕ} {xs ys : List ℕ} (l : Lists n s xs t ys) (k pairs degre
         let q = found_held n (both n s xs t ys) k x y wide f h i in
         turned p d (rw (is, ne_eqb x 0 h, q) (omega arith)) (rw is (omega (arith, held_most x (behind n (both n s xs t ys) k) q))) (omega arith) (omega arith) (omega arith) (omega arith)
 
-    pub turned_new : (p d c : ℕ) → (x ≡ y → ⊥) → x < 65536 → c ≡ x - y → p ≡ pairs + 1 → d ≡ degree + c → Turned p d
+    pub turned_new : (p d c : ℕ) → (x ≡ y → ⊥) → c < 65536 → c ≡ x - y → p ≡ pairs + 1 → d ≡ degree + c → Turned p d
     turned_new p d c i r fc fp fd =
         let q = found_new n (both n s xs t ys) k x y wide f i in
         let w : y ≡ greatest (behind n (both n s xs t ys) k) = rw q at found in
@@ -261,10 +258,6 @@ degree_all (suc n) s xs t ys l = degree_added l (omega arith)
 pub alone : {n s t : ℕ} {xs ys : List ℕ} → Lists n s xs t ys → Lists n t ys 0 ys
 alone {n} l = record { first = l.second; second = rw (zero-mul n) (omega arith); width = l.width; count = omega (arith, l.count) }
 
--- the first list, with none behind it
-pub alone_first : {n s t : ℕ} {xs ys : List ℕ} → Lists n s xs t ys → Lists n s xs 0 xs
-alone_first {n} l = record { first = l.first; second = rw (zero-mul n) (omega arith); width = l.width; count = omega (arith, l.count) }
-
 pairs_none : (n : ℕ) → pairs n [] ≡ 0
 pairs_none n = sum_below_none n
 
@@ -275,59 +268,15 @@ module _ (n s : ℕ) (xs : List ℕ) (t : ℕ) (ys : List ℕ) (a b : ℕ) where
   pub degree_both : a + coefficients_asked (listed n t ys) ≡ coefficients_asked (both n s xs t ys) → b + coefficients_asked (listed n 0 ys) ≡ coefficients_asked (both n t ys 0 ys) → a + b + 1 ≡ coefficients_asked (both n s xs t ys)
   degree_both e f = omega (arith, ap coefficients_asked (append-nil (listed n t ys)))
 
--- what one list alone measures, where there is no second one
-module _ (n s : ℕ) (xs : List ℕ) (t : ℕ) (ys : List ℕ) (z : t ≤ 0) (p d : ℕ) where
-  same : both n s xs 0 xs ≡ both n s xs t ys
-  same = let e : 0 ≡ t = omega arith in ap (λ (k : ℕ). listed n s xs ++ listed n k ys) e
+-- what the first list adds is all there is, where there is no second one
+pub added_measured : (n s : ℕ) (xs : List ℕ) (t : ℕ) (ys : List ℕ) → t ≤ 0 → (p d : ℕ)
+    → ((p + pairs n (listed n t ys) ≡ pairs n (both n s xs t ys)) × (p ≤ 4096 * 4096)) × ((d + coefficients_asked (listed n t ys) ≡ coefficients_asked (both n s xs t ys)) × (d ≤ 4096 * 4096 * 65535)) → Measured n (both n s xs t ys) p d
+added_measured n s xs zero ys z p d e = record { count = omega (arith, e.0.0, pairs_none n); sum = e.1.0; most = omega (arith, e.1.1) }
+added_measured n s xs (suc t) ys z p d e = absurd (omega arith)
 
-  pub one_measured : Measured n (both n s xs 0 xs) p d → Measured n (both n s xs t ys) p d
-  one_measured = subst (λ (L : List (List ℕ)). Measured n L p d) same
-
-  pub added_measured : ((p + pairs n (listed n 0 xs) ≡ pairs n (both n s xs 0 xs)) × (p ≤ 4096 * 4096)) × ((d + coefficients_asked (listed n 0 xs) ≡ coefficients_asked (both n s xs 0 xs)) × (d ≤ 4096 * 4096 * 65535)) → Measured n (both n s xs t ys) p d
-  added_measured e = one_measured (record { count = omega (arith, e.0.0, pairs_none n); sum = e.1.0; most = omega (arith, e.1.1) })
-
--- the greater of two sizes, by a test
-pub greater_of : (d e least k : ℕ) → d ≡ e → ((d < least) × (k ≡ least)) ⊎ ((least ≤ d) × (k ≡ d)) → k ≡ max e least
-greater_of d e least k f (inl w) = omega (arith, w.0, w.1)
-greater_of d e least k f (inr w) = omega (arith, w.0, w.1)
-
--- the sums, products and places of the loops
+-- the sizes themselves
 module _ {n s t : ℕ} {xs ys : List ℕ} (l : Lists n s xs t ys) where
-  pub first_fits : Fits w64 (s * n)
-  first_fits = omega (arith, cells_below l)
-
-  pub second_fits : Fits w64 (t * n)
-  second_fits = omega (arith, cells_below l)
-
-  pub all_fits : Fits w64 (s * n + t * n)
-  all_fits = omega (arith, cells_below l)
-
-  module _ (k : ℕ) (g : k < s * n) where
-    pub first_in : k < length xs
-    first_in = omega (arith, l.first)
-
-    pub first_bytes : Fits w64 (k * 2)
-    first_bytes = omega (arith, cells_below l)
-
-    pub first_step : Fits w64 (k + n)
-    first_step = omega (arith, cells_below l, l.width)
-
-    pub pairs_fit : (p : ℕ) → p ≤ k → Fits w64 (p + 1)
-    pairs_fit p h = omega (arith, cells_below l)
-
-    pub degree_fits : (d c : ℕ) → d ≤ k * 65535 → c < 65536 → Fits w64 (d + c)
-    degree_fits d c h f = omega (arith, cells_below l)
-
-  module _ (k : ℕ) (g : k < s * n + t * n) where
-    pub second_in : s * n ≤ k → k - s * n < length ys
-    second_in h = omega (arith, l.second)
-
-    pub second_bytes : Fits w64 ((k - s * n) * 2)
-    second_bytes = omega (arith, cells_below l)
-
-    pub all_step : Fits w64 (k + n)
-    all_step = omega (arith, cells_below l, l.width)
-
+  -- what the cells so far add
   module _ (k : ℕ) (h : k ≤ s * n) where
     pub pairs_least : (p : ℕ) → p ≤ k → p ≤ 4096 * 4096
     pairs_least p f = omega (arith, cells_below l)
@@ -335,17 +284,7 @@ module _ {n s t : ℕ} {xs ys : List ℕ} (l : Lists n s xs t ys) where
     pub degree_least : (d : ℕ) → d ≤ k * 65535 → d ≤ 4096 * 4096 * 65535
     degree_least d f = omega (arith, cells_below l)
 
-pub step_less : (e k n : ℕ) → 0 < n → k < e → e - (k + n) < e - k
-step_less e k n z h = omega arith
-
--- the sizes themselves
-module _ {n s t : ℕ} {xs ys : List ℕ} (l : Lists n s xs t ys) where
-  pub count_fits : Fits w64 (s + t)
-  count_fits = omega (arith, l.count)
-
-  pub rows_fit : Fits w64 ((s + t) * n)
-  rows_fit = omega (arith, cells_small l)
-
+  -- the product of which the cells are asked
   module _ (p : ℕ) (e : p ≡ pairs n (both n s xs t ys)) where
     pub factor_fits : Fits w64 (s + t + p)
     factor_fits = omega (arith, l.count, pairs_small l)
@@ -358,16 +297,5 @@ module _ {n s t : ℕ} {xs ys : List ℕ} (l : Lists n s xs t ys) where
     pub product_is : (s + t) * n * (s + t + p) ≡ cells_asked n (both n s xs t ys)
     product_is = rw e (asked_is l)
 
--- what both lists add
-pub pairs_fit_both : (p q : ℕ) → p ≤ 4096 * 4096 → q ≤ 4096 * 4096 → Fits w64 (p + q)
-pairs_fit_both p q h g = omega arith
-
-module _ (p q : ℕ) (h : p ≤ 4096 * 4096 * 65535) (g : q ≤ 4096 * 4096 * 65535) where
-  pub degrees_fit : Fits w64 (p + q)
-  degrees_fit = omega arith
-
-  pub degrees_most : p + q ≤ 8192 * 4096 * 65535
-  degrees_most = omega arith
-
-pub degree_fits_one : (d : ℕ) → d ≤ 8192 * 4096 * 65535 → Fits w64 (d + 1)
-degree_fits_one d h = omega arith
+pub degrees_most : (p q : ℕ) → p ≤ 4096 * 4096 * 65535 → q ≤ 4096 * 4096 * 65535 → p + q ≤ 8192 * 4096 * 65535
+degrees_most p q h g = omega arith

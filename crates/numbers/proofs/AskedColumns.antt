@@ -5,22 +5,14 @@
 --   counted-..    the loop over the exponents of one variable
 --   summed-..     the loop over the variables, whose greatest exponents are known; column-..: one of them
 --   degree_known  the degree of the greatest exponents
-use Rattle.std.proofs.Common.{◌≡◌, ℕ, suc, ◌+◌, ◌*◌, ◌/◌, ◌%◌, ◌<◌, ◌≤◌, Bool, true, false, cond, ◌||◌, eqb, ◌⊎◌, List, length, get_or, sym, refl, ap, ◌∙◌, inl, inr, mod-eq_of_lt, zero-mul, arith, w64, Fits, eq-eqb, ne_eqb}
+use Rattle.std.proofs.Common.{◌≡◌, ℕ, suc, ◌+◌, ◌*◌, ◌/◌, ◌%◌, ◌<◌, ◌≤◌, Bool, true, false, cond, ◌||◌, eqb, ◌⊎◌, List, get_or, sym, ap, ◌∙◌, inl, inr, mod-eq_of_lt, arith, w64, Fits, eq-eqb, ne_eqb}
 use native.Mathlib.Nat.{div-eq_of_lt, add-mod_right}
 use Rattle.laws.specs.Monomial.{degree}
-use Rattle.laws.specs.Room.{column, coefficients_asked, distinct, holds, pairs}
+use Rattle.laws.specs.Room.{column, coefficients_asked, distinct, holds}
 use Rattle.laws.specs.Sums.{sum_below}
 use Rattle.laws.proofs.Asked.{Lists, both, coefficients_are, columns, distinct_end, distinct_most, distinct_next, sum_below_next}
 use Rattle.laws.proofs.Columns.{Greatest, degree_greatest, distinct_at}
-use Rattle.numbers.proofs.AskedCells.{Found, behind, cell_at, cells_below, found_held, found_new, from, from_next, row_below, row_past}
-
--- one list alone, cell by cell
-module _ (n s k : ℕ) where
-  pub one_below : k < s * n → k < s * n + 0 * n
-  one_below g = omega (arith, zero-mul n)
-
-  pub one_past : s * n ≤ k → s * n + 0 * n ≤ k
-  one_past g = omega (arith, zero-mul n)
+use Rattle.numbers.proofs.AskedCells.{Found, behind, cell_at, found_held, found_new, from, from_next, row_below, row_past}
 
 -- the loop over the exponents of one variable
 
@@ -59,9 +51,6 @@ module _ {n s t : ℕ} {xs ys : List ℕ} (l : Lists n s xs t ys) (z : 0 < n) (v
       pub counted_new : (x ≡ y → ⊥) → new ≡ count + 1 → Counted n (both n s xs t ys) v new (k + n)
       counted_new w i = counted new false (some false (found_new n (both n s xs t ys) k x y z f w)) i
 
-  pub count_more : k < s * n + t * n → Fits w64 (count + 1)
-  count_more g = omega (arith, q.2, cells_below l)
-
   pub counted_all : s * n + t * n ≤ k → count ≡ distinct (column (both n s xs t ys) v)
   counted_all g = omega (arith, q.1, distinct_end (column (both n s xs t ys) (k % n)) (k / n) (row_past l z k g))
 
@@ -70,20 +59,8 @@ module _ {n s t : ℕ} {xs ys : List ℕ} (l : Lists n s xs t ys) (z : 0 < n) (v
 abbrev pub Summed : ℕ → List (List ℕ) → ℕ → ℕ → Type 0
 Summed n L sum v = (v ≤ n) × (sum ≡ sum_below v (λ w. distinct (column L w))) × (sum ≤ v * 4096)
 
-pub summed_none : (n : ℕ) (L : List (List ℕ)) → Summed n L 0 0
-summed_none n L = (omega arith, refl, omega arith)
-
 module _ {n s t : ℕ} {xs ys : List ℕ} (l : Lists n s xs t ys) (v : ℕ) (g : v < n) where
-  pub column_bytes : Fits w64 (v * 2)
-  column_bytes = omega (arith, l.width)
-
-  pub column_next : Fits w64 (v + 1)
-  column_next = omega (arith, l.width)
-
   module _ {us : List ℕ} (k : Greatest n (both n s xs t ys) us) where
-    pub column_in : v < length us
-    column_in = omega (arith, k.len)
-
     pub column_pairs : (p : ℕ) → ((1 < get_or us v 0) × (p ≡ distinct (column (both n s xs t ys) v))) ⊎ ((get_or us v 0 ≤ 1) × (p ≡ get_or us v 0)) → p ≡ distinct (column (both n s xs t ys) v)
     column_pairs p (inl w) = w.1
     column_pairs p (inr w) = w.1 ∙ sym (distinct_at k v g w.0)
@@ -97,11 +74,6 @@ module _ {n s t : ℕ} {xs ys : List ℕ} (l : Lists n s xs t ys) (v : ℕ) (g :
 
     pub summed_next : Summed n (both n s xs t ys) (sum + p) (v + 1)
     summed_next = (omega arith, sum_below_next v sum p (λ w. distinct (column (both n s xs t ys) w)) e q.1, omega (arith, few, q.2))
-
-pub summed_all : (n : ℕ) (L : List (List ℕ)) (sum v : ℕ) → Summed n L sum v → n ≤ v → sum ≡ pairs n L
-summed_all n L sum v q g =
-    let f : v ≡ n = omega (arith, q.0) in
-    q.1 ∙ ap (λ (w : ℕ). sum_below w (λ u. distinct (column L u))) f
 
 -- the degree of the greatest exponents
 pub degree_known : {n s t : ℕ} {xs ys us : List ℕ} → Lists n s xs t ys → Greatest n (both n s xs t ys) us → (d : ℕ) → (d ≡ degree us) × (d ≤ 4294901760) → (d + 1 ≡ coefficients_asked (both n s xs t ys)) × (d ≤ 8192 * 4096 * 65535)

@@ -2,11 +2,13 @@
 -- Assumes nothing.
 use Rattle.std.proofs.Common.{◌≡◌, sym, ◌∙◌}
 use contract.Lifetimes.{Lfts}
-use Rattle.numbers.specs.declared.dimension.DimensionAnswer.{DimensionAnswer}
 use Rattle.numbers.proofs.dimension.quotient_dimension.Reads as quotient_dimension
+use Rattle.std.specs.Prelude.{Result}
+use Rattle.numbers.specs.declared.dimension.Dimension.{Dimension}
+use Rattle.monomials.specs.declared.refusal.Refusal.{Refusal}
 
 -- of the answer and of what the exponent room, the two coefficient rooms and the sum room then hold
-pub quotient_dimension_determined : (κs : Lfts 5) (a : _) (r r' : DimensionAnswer) (s s' : _) → quotient_dimension.Post κs a r s → quotient_dimension.Post κs a r' s'
+pub quotient_dimension_determined : (κs : Lfts 5) (a : _) (r r' : Result Dimension Refusal) (s s' : _) → quotient_dimension.Post κs a r s → quotient_dimension.Post κs a r' s'
     → (r ≡ r')
     × (s.1.1.1.0.now ≡ s'.1.1.1.0.now)
     × (s.1.1.1.1.0.now ≡ s'.1.1.1.1.0.now)

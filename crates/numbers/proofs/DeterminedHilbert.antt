@@ -12,9 +12,7 @@ use contract.Lifetimes.{Lfts}
 use Rattle.numbers.specs.Wide.{value, wide}
 use Rattle.numbers.specs.Hilbert.{hilbert_answer}
 use Rattle.numbers.specs.declared.wide.Wide.{Wide}
-use Rattle.numbers.specs.declared.wide.Product.{Product}
-use Rattle.numbers.specs.declared.coefficients.DegreeAnswer.{DegreeAnswer}
-use Rattle.numbers.specs.declared.hf_at.SignedAnswer.{SignedAnswer}
+use Rattle.std.specs.Prelude.{Option, Result}
 use Rattle.numbers.proofs.signed.magnitude.Reads as magnitude
 use Rattle.numbers.proofs.signed.wrapping_add.Reads as signed_add
 use Rattle.numbers.proofs.signed.wrapping_sub.Reads as signed_sub
@@ -34,6 +32,7 @@ use Rattle.numbers.proofs.coefficients.is_zero.Reads as is_zero
 use Rattle.numbers.proofs.coefficients.degree.Reads as degree
 use Rattle.numbers.proofs.coefficients.coeff.Reads as coeff
 use Rattle.numbers.proofs.hf_at.hf_at.Reads as hf_at
+use Rattle.monomials.specs.declared.refusal.Refusal.{Refusal}
 
 pub magnitude_determined : (κs : Lfts 0) (a : _) (r r' : ℕ) (s s' : _) → magnitude.Post κs a r s → magnitude.Post κs a r' s' → r ≡ r'
 magnitude_determined κs a r r' s s' p q = p ∙ sym q
@@ -74,7 +73,7 @@ is_large_determined κs a r r' s s' p q = p ∙ sym q
 pub product_determined : (κs : Lfts 0) (a : _) (r r' : Wide) (s s' : _) → product.Post κs a r s → product.Post κs a r' s' → r ≡ r'
 product_determined κs a r r' s s' p q = p ∙ sym q
 
-pub times_determined : (κs : Lfts 0) (a : _) (r r' : Product) (s s' : _) → times.Post κs a r s → times.Post κs a r' s' → r ≡ r'
+pub times_determined : (κs : Lfts 0) (a : _) (r r' : Option Wide) (s s' : _) → times.Post κs a r s → times.Post κs a r' s' → r ≡ r'
 times_determined κs a r r' s s' p q = p ∙ sym q
 
 -- of what the total then is, over the clause itself
@@ -90,16 +89,16 @@ add_into_determined {𝓤 = 𝓤} 𝓛 at_mem run κs a r r' s s' =
 pub is_zero_determined : (κs : Lfts 1) (a : _) (r r' : Bool) (s s' : _) → is_zero.Post κs a r s → is_zero.Post κs a r' s' → r ≡ r'
 is_zero_determined κs a r r' s s' p q = p ∙ sym q
 
-pub degree_determined : (κs : Lfts 1) (a : _) (r r' : DegreeAnswer) (s s' : _) → degree.Post κs a r s → degree.Post κs a r' s' → r ≡ r'
+pub degree_determined : (κs : Lfts 1) (a : _) (r r' : Option ℕ) (s s' : _) → degree.Post κs a r s → degree.Post κs a r' s' → r ≡ r'
 degree_determined κs a r r' s s' p q = p ∙ sym q
 
 pub coeff_determined : (κs : Lfts 1) (a : _) (r r' : ℤ) (s s' : _) → coeff.Post κs a r s → coeff.Post κs a r' s' → r ≡ r'
 coeff_determined κs a r r' s s' p q = p ∙ sym q
 
 -- of the answer and of what the room then holds
-pub hf_at_determined : (κs : Lfts 2) (a : _) (r r' : SignedAnswer) (s s' : _) → hf_at.Post κs a r s → hf_at.Post κs a r' s' → (r ≡ r') × (s.1.1.1.0.now ≡ s'.1.1.1.0.now)
+pub hf_at_determined : (κs : Lfts 2) (a : _) (r r' : Result Wide Refusal) (s s' : _) → hf_at.Post κs a r s → hf_at.Post κs a r' s' → (r ≡ r') × (s.1.1.1.0.now ≡ s'.1.1.1.0.now)
 hf_at_determined κs a r r' s s' p q = (p.0 ∙ sym q.0, p.1 ∙ sym q.1)
 
 -- the greatest width and the greatest degree, in numbers
-pub hf_at_limits : (κs : Lfts 2) (a : _) (r : SignedAnswer) (s : _) → hf_at.Post κs a r s → r ≡ hilbert_answer 255 65536 a.0 a.1.0.now a.1.1.0 a.1.1.1.0.now
+pub hf_at_limits : (κs : Lfts 2) (a : _) (r : Result Wide Refusal) (s : _) → hf_at.Post κs a r s → r ≡ hilbert_answer 255 65536 a.0 a.1.0.now a.1.1.0 a.1.1.1.0.now
 hf_at_limits κs a r s p = p.0

@@ -3,9 +3,10 @@
 --                                         the checks of the rooms leave
 --   Outcome r a b d e                  == they are what the call's contract says
 -- Assumes nothing.
-use Rattle.std.proofs.Common.{◌≡◌, ℕ, zero, suc, ◌*◌, ◌%◌, ◌^◌, ◌<◌, ◌≤◌, Bool, true, false, cond, not, ◌||◌, eqb, ltb, leb, ◌≢◌, ◌⊎◌, List, [], ◌∷◌, ◌++◌, length, drop, replicate, ℤ, pos, sym, refl, ap, ◌∙◌, append-nil, le_trans, le_refl, mod-eq_of_lt, arith, lit<, lit≤, ltb-false, le-ltb, lt-ltb, eq-eqb, ne_eqb, eqb-true, leb-false}
+use Rattle.std.proofs.Common.{◌≡◌, ℕ, suc, ◌*◌, ◌%◌, ◌^◌, ◌<◌, ◌≤◌, Bool, true, false, cond, not, ◌||◌, eqb, ltb, leb, ◌⊎◌, List, [], ◌∷◌, ◌++◌, length, drop, replicate, ℤ, pos, sym, refl, ap, ◌∙◌, append-nil, le_trans, le_refl, mod-eq_of_lt, arith, lit<, lit≤, ltb-false, le-ltb, lt-ltb, eq-eqb, eqb-true, leb-false}
 use mathlib.Core.Bool.{false≢true}
 use mathlib.Core.Option.{Option, none, some}
+use Rattle.std.specs.Prelude.{Result, Ok, Err}
 use native.Mathlib.Nat.{mod-mod}
 use borrow.Author.Tests.{not-false}
 use Rattle.laws.specs.Ideal.{listed, Within, unit_in}
@@ -14,24 +15,23 @@ use Rattle.laws.specs.Count.{HF}
 use Rattle.laws.specs.Numerator.{numerator}
 use Rattle.laws.specs.Sums.{sum, sumsℤ}
 use Rattle.laws.specs.Word.{residue}
-use Rattle.laws.specs.Dimension.{finite, degree_bound, powers_product, dimension, top_degree}
+use Rattle.laws.specs.Dimension.{finite, degree_bound, powers_product, dimension}
 use Rattle.laws.specs.Room.{cells_asked, coefficients_asked, dimension_words}
-use Rattle.laws.proofs.Ideal.{listed_width}
 use Rattle.laws.proofs.Coefficients.{coefficient_padded}
 use Rattle.laws.proofs.Sums.{sums_ext, residue_sum}
 use Rattle.laws.proofs.Word.{residue_lt}
-use Rattle.laws.proofs.Dimension.{dimension_unit, dimension_no_variables, hf_residue, dimension_sum}
+use Rattle.laws.proofs.Dimension.{dimension_unit, hf_residue, dimension_sum}
 use Rattle.monomials.specs.Refusal.{Check, refusal, after, too_wide}
+use Rattle.monomials.proofs.Outcomes.{ok_passes, ok_value}
 use Rattle.monomials.specs.declared.refusal.Refusal.{Refusal}
-use Rattle.monomials.specs.declared.refusal.Refusal.TheVariants.{Width, Count, Cells as CellsOut, CellRoom, CoefficientRoom, SumRoom}
+use Rattle.monomials.specs.declared.refusal.Refusal.TheVariants.{CellRoom, CoefficientRoom, SumRoom}
 use Rattle.numbers.specs.Wide.{wide, wide_of}
 use Rattle.numbers.specs.Numerator.{wiped, too_many, not_cells, list_checks}
 use Rattle.numbers.specs.Dimension.{dimension_is, at_once, no_dimension, bound_checks, room_checks, dimension_checks, dimension_answer, dimension_room, dimension_first, dimension_second, dimension_sums}
-use Rattle.numbers.specs.DimensionParts.{Bounded, Cells as CellsOf, checked_is, bound_answer, list_answer}
+use Rattle.numbers.specs.DimensionParts.{Bounded, Cells as CellsOf, decision_as, list_answer}
 use Rattle.numbers.specs.declared.wide.Wide.{Wide}
-use Rattle.numbers.specs.declared.powers.Checked.{Checked}
-use Rattle.numbers.specs.declared.dimension.DimensionOutcome.{DimensionOutcome}
-use Rattle.numbers.specs.declared.dimension.DimensionAnswer.{DimensionAnswer}
+use Rattle.numbers.specs.declared.dimension.Decision.{Decision}
+use Rattle.numbers.specs.declared.dimension.Dimension.{Dimension}
 use Rattle.numbers.proofs.ToLaws.{either_short, neither}
 use Rattle.numbers.proofs.TwoWords.{wide_mod}
 
@@ -61,30 +61,13 @@ module _ (M n : ℕ) (L : List (List ℕ)) where
 
 -- what the list decides, read back
 
-module _ (o : Option Refusal) (t : Bool) (w b : ℕ) where
-  pub is_bound : (d : ℕ) → checked_is o t w b ≡ Checked.Bound d → (o ≡ none) × (t ≡ false) × (d ≡ b)
-  is_bound d e = go o t refl refl
+module _ (t : Bool) (w b : ℕ) where
+  is_bound : (d : ℕ) → Decision.Bound d ≡ decision_as t w b → (t ≡ false) × (d ≡ b)
+  is_bound d e = go t refl
     where
-      go : (x : Option Refusal) (y : Bool) → o ≡ x → t ≡ y → (o ≡ none) × (t ≡ false) × (d ≡ b)
-      go none true h g = let z : ◌≡◌ {A = ℕ} 0 1 = cc (rw (h, g) at e) in absurd (omega arith)
-      go none false h g = (h, g, cc (rw (h, g) at e))
-      go (some r) y h g = let z : ◌≡◌ {A = ℕ} 0 1 = cc (rw h at e) in absurd (omega arith)
-
-  pub is_known : (x : Wide) → checked_is o t w b ≡ Checked.Known x → (o ≡ none) × (t ≡ true) × (x ≡ wide w)
-  is_known v e = go o t refl refl
-    where
-      go : (x : Option Refusal) (y : Bool) → o ≡ x → t ≡ y → (o ≡ none) × (t ≡ true) × (v ≡ wide w)
-      go none true h g = (h, g, cc (rw (h, g) at e))
-      go none false h g = let z : ◌≡◌ {A = ℕ} 0 1 = cc (rw (h, g) at e) in absurd (omega arith)
-      go (some r) y h g = let z : ◌≡◌ {A = ℕ} 0 1 = cc (rw h at e) in absurd (omega arith)
-
-  pub is_refused : (r : Refusal) → checked_is o t w b ≡ Checked.Refused r → o ≡ some r
-  is_refused r e = go o t refl refl
-    where
-      go : (x : Option Refusal) (y : Bool) → o ≡ x → t ≡ y → o ≡ some r
-      go none true h g = let z : ◌≡◌ {A = ℕ} 0 1 = cc (rw (h, g) at e) in absurd (omega arith)
-      go none false h g = let z : ◌≡◌ {A = ℕ} 0 1 = cc (rw (h, g) at e) in absurd (omega arith)
-      go (some x) y h g = h ∙ ap some (cc (rw h at e))
+      go : (y : Bool) → t ≡ y → (t ≡ false) × (d ≡ b)
+      go true g = let z : ◌≡◌ {A = ℕ} 0 1 = cc (rw g at e) in absurd (omega arith)
+      go false g = (g, cc (rw g at e))
 
 -- counting
 
@@ -106,7 +89,7 @@ module _ (n d : ℕ) (L : List (List ℕ)) (b : Bounded n L d) where
 -- the rooms' checks
 
 module _ (n : ℕ) (L : List (List ℕ)) (room : List ℕ) (p q : List ℤ) (sums : List ℕ) where
-  abbrev pub Left : DimensionAnswer → List ℕ → List ℤ → List ℤ → List ℕ → Type 0
+  abbrev pub Left : Result Dimension Refusal → List ℕ → List ℤ → List ℤ → List ℕ → Type 0
   Left r a b d e =
       (r ≡ dimension_is (refusal (room_checks n L room p q sums)) n L)
       × ((a ≡ after (refusal (room_checks n L room p q sums)) (wiped 0 (cells_asked n L) room) room)
@@ -114,7 +97,7 @@ module _ (n : ℕ) (L : List (List ℕ)) (room : List ℕ) (p q : List ℤ) (sum
       × ((d ≡ after (refusal (room_checks n L room p q sums)) (wiped (pos 0) (coefficients_asked L) q) q)
       × (e ≡ after (refusal (room_checks n L room p q sums)) (wiped 0 (dimension_words (degree_bound n L)) sums) sums))))
 
-  stops : (x : Refusal) (r : DimensionAnswer) → refusal (room_checks n L room p q sums) ≡ some x → r ≡ record { outcome = DimensionOutcome.Refused x } → Left r room p q sums
+  stops : (x : Refusal) (r : Result Dimension Refusal) → refusal (room_checks n L room p q sums) ≡ some x → r ≡ Err x → Left r room p q sums
   stops x r e h = (rw e h, (rw e, (rw e, (rw e, rw e))))
 
   module _ (c k d : ℕ) (ec : c ≡ cells_asked n (L ++ [])) (ek : k ≡ coefficients_asked (L ++ [])) (ed : d ≡ degree_bound n L) where
@@ -127,18 +110,18 @@ module _ (n : ℕ) (L : List (List ℕ)) (room : List ℕ) (p q : List ℤ) (sum
     pub sums_size : dimension_words d ≡ dimension_words (degree_bound n L)
     sums_size = ap dimension_words ed
 
-    pub stops_room : (r : DimensionAnswer) → length room < c → r ≡ record { outcome = DimensionOutcome.Refused CellRoom } → Left r room p q sums
+    pub stops_room : (r : Result Dimension Refusal) → length room < c → r ≡ Err CellRoom → Left r room p q sums
     stops_room r l e = stops CellRoom r (rw (lt-ltb (length room) (cells_asked n L) (rw room_size at l))) e
 
     module _ (l : c ≤ length room) where
-      pub stops_coefficients : (r : DimensionAnswer) (y : ℕ) → (y ≡ length p) ⊎ (y ≡ length q) → y < k → r ≡ record { outcome = DimensionOutcome.Refused CoefficientRoom } → Left r room p q sums
+      pub stops_coefficients : (r : Result Dimension Refusal) (y : ℕ) → (y ≡ length p) ⊎ (y ≡ length q) → y < k → r ≡ Err CoefficientRoom → Left r room p q sums
       stops_coefficients r y o a e =
           stops CoefficientRoom r
           (rw (le-ltb (length room) (cells_asked n L) (rw room_size at l), either_short (coefficients_asked L) (length p) (length q) y o (rw list_size at a))) e
 
       module _ (a : k ≤ length p) where
         module _ (b : k ≤ length q) where
-          pub stops_sums : (r : DimensionAnswer) → length sums < dimension_words d → r ≡ record { outcome = DimensionOutcome.Refused SumRoom } → Left r room p q sums
+          pub stops_sums : (r : Result Dimension Refusal) → length sums < dimension_words d → r ≡ Err SumRoom → Left r room p q sums
           stops_sums r h e =
               stops SumRoom r
               (rw (le-ltb (length room) (cells_asked n L) (rw room_size at l), le-ltb (length p) (coefficients_asked L) (rw list_size at a), le-ltb (length q) (coefficients_asked L) (rw list_size at b), lt-ltb (length sums) (dimension_words (degree_bound n L)) (rw sums_size at h))) e
@@ -147,8 +130,8 @@ module _ (n : ℕ) (L : List (List ℕ)) (room : List ℕ) (p q : List ℤ) (sum
           passes h =
               rw (le-ltb (length room) (cells_asked n L) (rw room_size at l), le-ltb (length p) (coefficients_asked L) (rw list_size at a), le-ltb (length q) (coefficients_asked L) (rw list_size at b), le-ltb (length sums) (dimension_words (degree_bound n L)) (rw sums_size at h))
 
-          pub gives : unit_in L ≡ false → dimension_words d ≤ length sums → (r : DimensionAnswer) (x : Wide) (A : List ℕ) (B D : List ℤ) (E : List ℕ)
-              → r ≡ record { outcome = DimensionOutcome.Value (record { dimension = x; top = d }) } → x ≡ wide (dimension n L)
+          pub gives : unit_in L ≡ false → dimension_words d ≤ length sums → (r : Result Dimension Refusal) (x : Wide) (A : List ℕ) (B D : List ℤ) (E : List ℕ)
+              → r ≡ Ok (record { dimension = x; top = d }) → x ≡ wide (dimension n L)
               → A ≡ replicate c 0 → B ≡ replicate k (pos 0) → D ≡ replicate k (pos 0) → E ≡ replicate (dimension_words d) 0
               → Left r (A ++ drop c room) (B ++ drop k p) (D ++ drop k q) (E ++ drop (dimension_words d) sums)
           gives u h r x A B D E e v eA eB eD eE =
@@ -193,34 +176,19 @@ refusal_none x xs e = go x.0 refl
     go true h = let z : ◌≡◌ {A = ℕ} 0 1 = cc (rw h at e) in absurd (omega arith)
     go false h = (refl, rw h at e)
 
--- without variables
-no_variables : (n s : ℕ) (cells : List ℕ) → n ≡ 0 → unit_in (listed n s cells) ≡ false → length cells ≡ s * n → dimension n (listed n s cells) ≡ 1
-no_variables zero s cells z u f = dimension_no_variables (listed 0 s cells) u (listed_width 0 s cells (omega arith))
-no_variables (suc n) s cells z u f = absurd (omega arith)
-
 -- what the list alone decides
 
+abbrev known : ℕ → Result Decision Refusal
+known x = Ok (Decision.Known (wide x))
+
+abbrev bound : ℕ → Result Decision Refusal
+bound d = Ok (Decision.Bound d)
+
 module _ (W C M n s : ℕ) (cells : List ℕ) where
-  pub decides_width : W < n → Checked.Refused Width ≡ list_answer W C M n s cells
-  decides_width h = rw (lt-ltb W n h)
-
-  pub decides_count : n ≤ W → C < s → Checked.Refused Count ≡ list_answer W C M n s cells
-  decides_count h g = rw (le-ltb W n h, lt-ltb C s g)
-
-  pub decides_cells : n ≤ W → s ≤ C → length cells ≢ s * n → Checked.Refused CellsOut ≡ list_answer W C M n s cells
-  decides_cells h g f = rw (le-ltb W n h, le-ltb C s g, ne_eqb (length cells) (s * n) f)
-
   module _ (h : n ≤ W) (g : s ≤ C) (f : length cells ≡ s * n) where
-    pub decides_unit : unit_in (listed n s cells) ≡ true → Checked.Known (wide 0) ≡ list_answer W C M n s cells
+    pub decides_unit : unit_in (listed n s cells) ≡ true → Ok (Decision.Known (wide 0)) ≡ list_answer W C M n s cells
     decides_unit u =
-        rw (le-ltb W n h, le-ltb C s g, eq-eqb (length cells) (s * n) f, u) (ap (λ (x : ℕ). Checked.Known (wide x)) (sym (dimension_unit n (listed n s cells) u)))
-
-    pub decides_one : unit_in (listed n s cells) ≡ false → n ≡ 0 → Checked.Known (wide 1) ≡ list_answer W C M n s cells
-    decides_one u z =
-        rw (le-ltb W n h, le-ltb C s g, eq-eqb (length cells) (s * n) f, u, eq-eqb n 0 z) (ap (λ (x : ℕ). Checked.Known (wide x)) (sym (no_variables n s cells z u f)))
-
-    pub decides_bound : unit_in (listed n s cells) ≡ false → n ≢ 0 → bound_answer M n (listed n s cells) ≡ list_answer W C M n s cells
-    decides_bound u z = rw (le-ltb W n h, le-ltb C s g, eq-eqb (length cells) (s * n) f, u, ne_eqb n 0 z)
+        rw (le-ltb W n h, le-ltb C s g, eq-eqb (length cells) (s * n) f, u) (ap known (sym (dimension_unit n (listed n s cells) u)))
 
   -- the checks that it passes
   abbrev pub decides : Option Refusal
@@ -249,14 +217,16 @@ pub record Found (n s : ℕ) (cells : List ℕ) (d : ℕ) : Type 0 where
   pub there : CellsOf n s cells
   pub bounded : Bounded n (listed n s cells) d
 
-pub found : (n s : ℕ) (cells : List ℕ) (w : Checked) (d : ℕ) → w ≡ list_answer 255 60 65536 n s cells → w ≡ Checked.Bound d → Found n s cells d
+pub found : (n s : ℕ) (cells : List ℕ) (w : Decision) (d : ℕ) → Ok w ≡ list_answer 255 60 65536 n s cells → w ≡ Decision.Bound d → Found n s cells d
 found n s cells w d f g =
-    let (e, o, b) = is_bound (decides 255 60 65536 n s cells) (at_once n (listed n s cells)) (dimension n (listed n s cells)) (degree_bound n (listed n s cells)) d (sym f ∙ g) in
+    let own = decision_as (at_once n (listed n s cells)) (dimension n (listed n s cells)) (degree_bound n (listed n s cells)) in
+    let e = ok_passes (decides 255 60 65536 n s cells) own w (sym f) in
+    let (o, b) = is_bound (at_once n (listed n s cells)) (dimension n (listed n s cells)) (degree_bound n (listed n s cells)) d (sym g ∙ ok_value (decides 255 60 65536 n s cells) own w (sym f)) in
     let (h, k, l) = is_list_lem 255 60 65536 n s cells e in
     record { none = e; later = o; there = record { there = l; width = h; count = k }; bounded = bounded 65536 n (listed n s cells) d (is_plain 255 60 65536 n s cells e o) (le_refl 65536) (passes_bound 255 60 65536 n s cells e o) b }
 
 module _ (W C M n s : ℕ) (cells room : List ℕ) (p q : List ℤ) (sums : List ℕ) where
-  abbrev pub Outcome : DimensionAnswer → List ℕ → List ℤ → List ℤ → List ℕ → Type 0
+  abbrev pub Outcome : Result Dimension Refusal → List ℕ → List ℤ → List ℤ → List ℕ → Type 0
   Outcome r a b d e =
       (r ≡ dimension_answer W C M n s cells room p q sums)
       × ((a ≡ dimension_room W C M n s cells room p q sums)
@@ -264,30 +234,8 @@ module _ (W C M n s : ℕ) (cells room : List ℕ) (p q : List ℤ) (sums : List
       × ((d ≡ dimension_second W C M n s cells room p q sums)
       × (e ≡ dimension_sums W C M n s cells room p q sums))))
 
-  refuses : (x : Refusal) (r : DimensionAnswer) → refusal (dimension_checks W C M n s cells room p q sums) ≡ some x → r ≡ record { outcome = DimensionOutcome.Refused x } → Outcome r room p q sums
-  refuses x r e h = (rw e h, (rw e, (rw e, (rw e, rw e))))
-
-  pub refuses_list : (x : Refusal) (r : DimensionAnswer) → decides W C M n s cells ≡ some x → r ≡ record { outcome = DimensionOutcome.Refused x } → Outcome r room p q sums
-  refuses_list x r e = go (at_once n (listed n s cells)) refl
-    where
-      go : (t : Bool) → at_once n (listed n s cells) ≡ t → r ≡ record { outcome = DimensionOutcome.Refused x } → Outcome r room p q sums
-      go true o = refuses x r (rw o (rw o at e))
-      go false o = refuses x r (rw o (refusal_first (list_checks W C n s cells ++ bound_checks M n (listed n s cells)) (room_checks n (listed n s cells) room p q sums) x (rw o at e)))
-
   module _ (e : decides W C M n s cells ≡ none) where
-    no_degree : at_once n (listed n s cells) ≡ true → top_degree n (listed n s cells) ≡ 0
-    no_degree o = go (unit_in (listed n s cells)) refl
-      where
-        go : (t : Bool) → unit_in (listed n s cells) ≡ t → top_degree n (listed n s cells) ≡ 0
-        go true u = rw u
-        go false u = let z : n ≡ 0 = eqb-true n 0 (rw u at o) in rw (u, z)
-
-    pub gives_known : (r : DimensionAnswer) (v : Wide) → at_once n (listed n s cells) ≡ true → v ≡ wide (dimension n (listed n s cells)) → r ≡ record { outcome = DimensionOutcome.Value (record { dimension = v; top = 0 }) } → Outcome r room p q sums
-    gives_known r v o f g =
-        let a : refusal (dimension_checks W C M n s cells room p q sums) ≡ none = rw o (rw o at e) in
-        (rw (a, no_degree o) (g ∙ rw f), (rw (a, o), (rw (a, o), (rw (a, o), rw (a, o)))))
-
-    pub leaves : (r : DimensionAnswer) (a : List ℕ) (b d : List ℤ) (c : List ℕ) → at_once n (listed n s cells) ≡ false → Left n (listed n s cells) room p q sums r a b d c → Outcome r a b d c
+    pub leaves : (r : Result Dimension Refusal) (a : List ℕ) (b d : List ℤ) (c : List ℕ) → at_once n (listed n s cells) ≡ false → Left n (listed n s cells) room p q sums r a b d c → Outcome r a b d c
     leaves r a b d c o l =
         let m : refusal (dimension_checks W C M n s cells room p q sums) ≡ refusal (room_checks n (listed n s cells) room p q sums) = rw o (refusal_then (list_checks W C n s cells ++ bound_checks M n (listed n s cells)) (room_checks n (listed n s cells) room p q sums) (rw o at e)) in
         (rw m l.0, (rw (m, o) l.1.0, (rw (m, o) l.1.1.0, (rw (m, o) l.1.1.1.0, rw (m, o) l.1.1.1.1))))

@@ -1,6 +1,7 @@
 -- Facts that belong to no one function.
 mod Bits
 mod Steps
+mod Runs
 mod Tally
 mod ToLaws
 mod TwoWords
@@ -9,6 +10,7 @@ mod Numbers
 mod MaskArray
 mod HilbertCall
 mod NumeratorCall
+mod BothLists
 mod AskedCells
 mod AskedColumns
 mod QuotientCells

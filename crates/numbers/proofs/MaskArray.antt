@@ -2,9 +2,8 @@
 --   words_of o    == the two words of a mask, zeros where it was refused
 -- In this file:
 --   words_are    at a width that is not refused they are the mask
---   mask_fits    the place of one, in bytes
 --   masks_next   one mask more
-use Rattle.std.proofs.Common.{◌≡◌, ℕ, suc, ◌+◌, ◌-◌, ◌*◌, ◌<◌, ◌≤◌, List, [], ◌∷◌, ◌++◌, map, length, set, replicate, ap, ◌∙◌, append_assoc, arith, w64, Fits, le-ltb}
+use Rattle.std.proofs.Common.{◌≡◌, ℕ, suc, ◌+◌, ◌-◌, ◌<◌, ◌≤◌, List, [], ◌∷◌, ◌++◌, map, length, set, replicate, ap, ◌∙◌, append_assoc, arith, le-ltb}
 use mathlib.Core.List.{map-append}
 use lib.ListN.{length-map}
 use lib.Seq.{set_at}
@@ -14,19 +13,16 @@ use Rattle.laws.proofs.Ideal.{listed_count}
 use Rattle.laws.proofs.Rows.{at}
 use Rattle.laws.proofs.Grown.{listed_next}
 use Rattle.monomials.specs.Mask.{mask_answer}
-use Rattle.monomials.specs.declared.divmask.MaskOutcome.{MaskOutcome}
-use Rattle.monomials.specs.declared.divmask.MaskOutcome.TheVariants.{Value, Refused}
-use Rattle.monomials.specs.declared.divmask.MaskAnswer.{MaskAnswer}
+use Rattle.std.specs.Prelude.{Result, Ok, Err}
+use Rattle.monomials.specs.declared.refusal.Refusal.{Refusal}
+use Rattle.monomials.specs.declared.divmask.DivMask.{DivMask}
 
-abbrev pub words_of : MaskOutcome → List ℕ
-words_of (Value m) = m.low ∷ m.high ∷ []
-words_of (Refused r) = 0 ∷ 0 ∷ []
+abbrev pub words_of : Result DivMask Refusal → List ℕ
+words_of (Ok m) = m.low ∷ m.high ∷ []
+words_of (Err r) = 0 ∷ 0 ∷ []
 
-pub words_are : (n M : ℕ) (row : List ℕ) (a : MaskAnswer) → n ≤ 255 → a ≡ mask_answer 255 n M row → words_of a.outcome ≡ mask n M row
-words_are n M row a h e = ap (λ (b : MaskAnswer). words_of b.outcome) e ∙ rw (le-ltb 255 n h)
-
-pub mask_fits : (i s : ℕ) → i < s → s ≤ 60 → Fits w64 (i * 16)
-mask_fits i s h g = omega arith
+pub words_are : (n M : ℕ) (row : List ℕ) (a : Result DivMask Refusal) → n ≤ 255 → a ≡ mask_answer 255 n M row → words_of a ≡ mask n M row
+words_are n M row a h e = ap (λ (b : Result DivMask Refusal). words_of b) e ∙ rw (le-ltb 255 n h)
 
 module _ (n M : ℕ) (xs : List ℕ) (i : ℕ) (h : i < 60) where
   left : 60 - i ≡ suc (60 - (i + 1))

@@ -8,14 +8,12 @@ use Rattle.laws.specs.Room.{cells_asked, coefficients_asked}
 use Rattle.monomials.specs.Refusal.{refusal}
 use Rattle.monomials.specs.declared.refusal.Refusal.{Refusal}
 use Rattle.numbers.specs.Numerator.{numerator_checks, numerator_answer, numerator_room, numerator_first, numerator_second}
-use Rattle.numbers.specs.declared.asked.Rooms.{Rooms}
 use Rattle.numbers.specs.declared.asked.Sizes.{Sizes}
-use Rattle.numbers.specs.declared.numerator.LengthOutcome.{LengthOutcome}
-use Rattle.numbers.specs.declared.numerator.LengthAnswer.{LengthAnswer}
 use Rattle.numbers.proofs.RoomsCall.{Passed, checks, one_cells, one_checks, one_coefficients, outcome, refused_is}
+use Rattle.std.specs.Prelude.{Result, Ok, Err}
 
 module _ (n s : ℕ) (cells room : List ℕ) (p q : List ℤ) where
-  abbrev pub Outcome : LengthAnswer → List ℕ → List ℤ → List ℤ → Type 0
+  abbrev pub Outcome : Result ℕ Refusal → List ℕ → List ℤ → List ℤ → Type 0
   Outcome r a b d =
       (r ≡ numerator_answer 255 60 n s cells room p q)
       × ((a ≡ numerator_room 255 60 n s cells room p q)
@@ -25,10 +23,10 @@ module _ (n s : ℕ) (cells room : List ℕ) (p q : List ℤ) where
   same : refusal (checks n s cells 0 [] false 0 (length room) (length p) (length q)) ≡ refusal (numerator_checks 255 60 n s cells room p q)
   same = one_checks n s cells (length room) (length p) (length q)
 
-  pub refuses : (w : Rooms) (x : Refusal) (r : LengthAnswer) → w ≡ outcome n s cells 0 [] false 0 (length room) (length p) (length q) → w ≡ Rooms.Refused x → r ≡ record { outcome = LengthOutcome.Refused x }
+  pub refuses : (x : Refusal) (r : Result ℕ Refusal) → Err x ≡ outcome n s cells 0 [] false 0 (length room) (length p) (length q) → r ≡ Err x
       → Outcome r room p q
-  refuses w x r f g h =
-      let e : refusal (numerator_checks 255 60 n s cells room p q) ≡ some x = sym same ∙ refused_is n s cells 0 [] false 0 (length room) (length p) (length q) w x f g in
+  refuses x r f h =
+      let e : refusal (numerator_checks 255 60 n s cells room p q) ≡ some x = sym same ∙ refused_is n s cells 0 [] false 0 (length room) (length p) (length q) x f in
       (rw e h, (rw e, (rw e, rw e)))
 
   module _ (a : Sizes) (h : Passed n s cells 0 [] false 0 (length room) (length p) (length q) a) where
@@ -39,13 +37,13 @@ module _ (n s : ℕ) (cells room : List ℕ) (p q : List ℤ) where
     is_coefficients = h.coefficients_are ∙ one_coefficients n s cells (length room) (length p) (length q)
 
     -- with i, j and k the lengths of the parts that were lent
-    pub gives : (i j k x : ℕ) (r : LengthAnswer) (A : List ℕ) (B D : List ℤ) → i ≡ a.cells → j ≡ a.coefficients → k ≡ a.coefficients → r ≡ record { outcome = LengthOutcome.Value x }
+    pub gives : (i j k x : ℕ) (r : Result ℕ Refusal) (A : List ℕ) (B D : List ℤ) → i ≡ a.cells → j ≡ a.coefficients → k ≡ a.coefficients → r ≡ Ok x
         → (x ≡ length (numerator (listed n s cells))) × (A ≡ replicate i 0) → B ≡ numerator (listed n s cells) ++ replicate (j - length (numerator (listed n s cells))) (pos 0) → D ≡ replicate k (pos 0)
         → Outcome r (A ++ drop a.cells room) (B ++ drop a.coefficients p) (D ++ drop a.coefficients q)
     gives i j k x r A B D ei ej ek e v eB eD =
         let o : refusal (numerator_checks 255 60 n s cells room p q) ≡ none = sym same ∙ h.none in
         let N = numerator (listed n s cells) in (
-          rw o (e ∙ ap (λ (y : ℕ). record { outcome = LengthOutcome.Value y }) v.0),
+          rw o (e ∙ ap (λ (y : ℕ). Ok y) v.0),
           (
             rw o (ap (λ (y : List ℕ). y ++ drop a.cells room) (v.1 ∙ ap (λ (y : ℕ). replicate y 0) ei) ∙ ap (λ (y : ℕ). replicate y 0 ++ drop y room) is_cells),
             (

@@ -2,7 +2,7 @@
 --   turned            the place in the monomial, one cell on
 --   rows_divided      the rows of the cells so written are the quotients
 --   carries_divided   both lists divided, and then thinned
-use Rattle.std.proofs.Common.{◌≡◌, ℕ, zero, suc, ◌+◌, ◌-◌, ◌*◌, ◌%◌, ◌^◌, ◌<◌, ◌≤◌, Bool, true, false, ltb, ◌⊎◌, List, ◌∷◌, ◌++◌, length, get_or, take, sym, refl, ap, ◌∙◌, ap₂, inl, inr, mod-lt, mod-eq_of_lt, suc-mul, add-mul, arith, length-append, length-take, get_or-take, get_or-append-add, ext_get_or, w64, Fits, ltb-false, ltb-true}
+use Rattle.std.proofs.Common.{◌≡◌, ℕ, zero, suc, ◌+◌, ◌-◌, ◌*◌, ◌%◌, ◌<◌, ◌≤◌, Bool, true, false, ltb, ◌⊎◌, List, ◌∷◌, ◌++◌, length, get_or, take, sym, refl, ap, ◌∙◌, ap₂, inl, inr, mod-lt, mod-eq_of_lt, suc-mul, add-mul, arith, length-append, length-take, get_or-take, get_or-append-add, ext_get_or, ltb-false, ltb-true}
 use native.Mathlib.Nat.{mod-add-mod, mod_self, mul-add-mod_self_right}
 use lib.ListN.{get_or-append}
 use Rattle.laws.specs.Monomial.{quotient, product}
@@ -15,8 +15,6 @@ use Rattle.laws.proofs.Asked.{both}
 use Rattle.laws.proofs.Few.{quotient_cell}
 use Rattle.laws.proofs.Exact.{rows_same}
 use Rattle.laws.proofs.Grown.{Carries, listed_append}
-use Rattle.numbers.proofs.AskedCells.{variables}
-use Rattle.numbers.proofs.Steps.{next_fits_in}
 
 pub turned : (n i v w : ℕ) → v < n → v ≡ i % n → ((v + 1 ≡ n) × (w ≡ 0)) ⊎ ((v + 1 ≡ n → ⊥) × (w ≡ v + 1)) → (w < n) × (w ≡ (i + 1) % n)
 turned n i v w h e (inl (f, g)) =
@@ -84,21 +82,5 @@ module _ (cells g : List ℕ) (q : 0 < length cells → 0 < length g) (i v : ℕ
   pub place_in : v < length g
   place_in = rw e (mod-lt i (q (omega arith)))
 
-  pub place_fits : length g < 2 ^ 64 → Fits w64 (v + 1)
-  place_fits f = next_fits_in v (length g) place_in f
-
   pub cell_less : (y : ℕ) → y ≡ get_or cells i 0 - get_or g v 0 → y ≡ get_or cells i 0 - get_or g (i % length g) 0
   cell_less y f = f ∙ ap (λ (z : ℕ). get_or cells i 0 - get_or g z 0) e
-
-  pub place_start : v + 1 ≡ length g → 0 ≡ (i + 1) % length g
-  place_start f = (turned (length g) i v 0 place_in e (inl (f, refl))).1
-
-  pub place_next : (v + 1 ≡ length g → ⊥) → v + 1 ≡ (i + 1) % length g
-  place_next f = (turned (length g) i v (v + 1) place_in e (inr (f, refl))).1
-
--- the monomial has a cell where a list has one, whether the whole of it or its first cells
-pub divisor_there : (n s : ℕ) (xs g : List ℕ) → length xs ≤ s * n → length g ≡ n → 0 < length xs → 0 < length g
-divisor_there n s xs g h e l = rw e (variables n s 0 (omega arith))
-
-pub first_cells : (n t : ℕ) (ys : List ℕ) → t * n ≤ length ys → length (take (t * n - 0) ys) ≡ t * n
-first_cells n t ys h = simp length-take (omega arith)

@@ -1,9 +1,9 @@
 -- The outcomes of `add_generators`: that the four equations of its contract hold, where a check refuses and where none does.
 --   Outcome r a b d    == the answer r, and a, b, d in the exponent room and the two coefficient rooms, are what the contract says
 -- In this file:
---   beyond_stop, beyond_next, beyond_end, within   check 15, coefficient by coefficient
---   refuses, gives                                 the outcomes
-use Rattle.std.proofs.Common.{◌≡◌, ℕ, zero, suc, ◌+◌, ◌-◌, ◌<◌, ◌≤◌, Bool, true, false, ◌||◌, ltb, List, [], ◌∷◌, ◌++◌, length, drop, replicate, ℤ, pos, nat_abs, sym, ap, ◌∙◌, add-one, arith, drop_of_length-le, drop-cons, ltb-false, le-ltb, lt-ltb}
+--   within           check 15, coefficient by coefficient
+--   refuses, gives   the outcomes
+use Rattle.std.proofs.Common.{◌≡◌, ℕ, zero, suc, ◌-◌, ◌≤◌, Bool, false, ltb, List, [], ◌∷◌, ◌++◌, length, drop, replicate, ℤ, pos, nat_abs, sym, ap, ◌∙◌, arith, ltb-false}
 use mathlib.Core.Option.{none, some}
 use Rattle.laws.specs.Coefficients.{coefficient}
 use Rattle.laws.specs.Ideal.{listed}
@@ -11,26 +11,12 @@ use Rattle.laws.specs.Numerator.{update}
 use Rattle.monomials.specs.Refusal.{refusal}
 use Rattle.monomials.specs.declared.refusal.Refusal.{Refusal}
 use Rattle.numbers.specs.Update.{beyond, update_checks, update_answer, update_room, update_first, update_second}
-use Rattle.numbers.specs.declared.asked.Rooms.{Rooms}
 use Rattle.numbers.specs.declared.asked.Sizes.{Sizes}
-use Rattle.numbers.specs.declared.numerator.LengthOutcome.{LengthOutcome}
-use Rattle.numbers.specs.declared.numerator.LengthAnswer.{LengthAnswer}
 use Rattle.numbers.proofs.RoomsCall.{Passed, checks, outcome, refused_is}
 use Rattle.numbers.proofs.ToLaws.{neither}
+use Rattle.std.specs.Prelude.{Result, Ok, Err}
 
 -- check 15, coefficient by coefficient
-
-beyond_rest : (M : ℕ) (G : List ℤ) (i : ℕ) → i < length G → beyond M (drop i G) ≡ (ltb M (nat_abs (coefficient G i)) || beyond M (drop (i + 1) G))
-beyond_rest M G i h = rw (add-one i) (ap (beyond M) (drop-cons G i (pos 0) h))
-
-pub beyond_stop : (M : ℕ) (G : List ℤ) (i : ℕ) → i < length G → M < nat_abs (coefficient G i) → beyond M G ≡ beyond M (drop i G) → true ≡ beyond M G
-beyond_stop M G i h l e = sym (e ∙ beyond_rest M G i h ∙ ap (λ (b : Bool). b || beyond M (drop (i + 1) G)) (lt-ltb M (nat_abs (coefficient G i)) l))
-
-pub beyond_next : (M : ℕ) (G : List ℤ) (i : ℕ) → i < length G → nat_abs (coefficient G i) ≤ M → beyond M G ≡ beyond M (drop i G) → beyond M G ≡ beyond M (drop (i + 1) G)
-beyond_next M G i h l e = e ∙ beyond_rest M G i h ∙ ap (λ (b : Bool). b || beyond M (drop (i + 1) G)) (le-ltb M (nat_abs (coefficient G i)) l)
-
-pub beyond_end : (M : ℕ) (G : List ℤ) (i : ℕ) → length G ≤ i → beyond M G ≡ beyond M (drop i G) → false ≡ beyond M G
-beyond_end M G i h e = sym (e ∙ ap (beyond M) (drop_of_length-le G h))
 
 pub within : (M : ℕ) (G : List ℤ) → beyond M G ≡ false → (k : ℕ) → nat_abs (coefficient G k) ≤ M
 within M [] h k = omega arith
@@ -38,7 +24,7 @@ within M (z ∷ G) h zero = ltb-false M (nat_abs z) (neither (ltb M (nat_abs z))
 within M (z ∷ G) h (suc k) = within M G (neither (ltb M (nat_abs z)) (beyond M G) h).1 k
 
 module _ (M n : ℕ) (G : List ℤ) (s0 : ℕ) (existing : List ℕ) (s1 : ℕ) (added room : List ℕ) (p q : List ℤ) (b : Bool) (eb : b ≡ beyond M G) where
-  abbrev pub Outcome : LengthAnswer → List ℕ → List ℤ → List ℤ → Type 0
+  abbrev pub Outcome : Result ℕ Refusal → List ℕ → List ℤ → List ℤ → Type 0
   Outcome r a c d =
       (r ≡ update_answer 255 60 M n G s0 existing s1 added room p q)
       × ((a ≡ update_room 255 60 M n G s0 existing s1 added room p q)
@@ -48,22 +34,22 @@ module _ (M n : ℕ) (G : List ℤ) (s0 : ℕ) (existing : List ℕ) (s1 : ℕ) 
   same : refusal (checks n s0 existing s1 added b (length G) (length room) (length p) (length q)) ≡ refusal (update_checks 255 60 M n G s0 existing s1 added room p q)
   same = ap (λ (l : Bool). refusal (checks n s0 existing s1 added l (length G) (length room) (length p) (length q))) eb
 
-  pub refuses : (w : Rooms) (x : Refusal) (r : LengthAnswer) → w ≡ outcome n s0 existing s1 added b (length G) (length room) (length p) (length q) → w ≡ Rooms.Refused x → r ≡ record { outcome = LengthOutcome.Refused x }
+  pub refuses : (x : Refusal) (r : Result ℕ Refusal) → Err x ≡ outcome n s0 existing s1 added b (length G) (length room) (length p) (length q) → r ≡ Err x
       → Outcome r room p q
-  refuses w x r f g h =
-      let e : refusal (update_checks 255 60 M n G s0 existing s1 added room p q) ≡ some x = sym same ∙ refused_is n s0 existing s1 added b (length G) (length room) (length p) (length q) w x f g in
+  refuses x r f h =
+      let e : refusal (update_checks 255 60 M n G s0 existing s1 added room p q) ≡ some x = sym same ∙ refused_is n s0 existing s1 added b (length G) (length room) (length p) (length q) x f in
       (rw e h, (rw e, (rw e, rw e)))
 
   module _ (a : Sizes) (h : Passed n s0 existing s1 added b (length G) (length room) (length p) (length q) a) where
     -- with i, j and k the lengths of the parts that were lent
-    pub gives : (i j k x : ℕ) (r : LengthAnswer) (A : List ℕ) (B D : List ℤ) → i ≡ a.cells → j ≡ a.coefficients → k ≡ a.coefficients → r ≡ record { outcome = LengthOutcome.Value x }
+    pub gives : (i j k x : ℕ) (r : Result ℕ Refusal) (A : List ℕ) (B D : List ℤ) → i ≡ a.cells → j ≡ a.coefficients → k ≡ a.coefficients → r ≡ Ok x
         → (x ≡ length (update G (listed n s0 existing) (listed n s1 added))) × (A ≡ replicate i 0)
         → B ≡ update G (listed n s0 existing) (listed n s1 added) ++ replicate (j - length (update G (listed n s0 existing) (listed n s1 added))) (pos 0) → D ≡ replicate k (pos 0)
         → Outcome r (A ++ drop a.cells room) (B ++ drop a.coefficients p) (D ++ drop a.coefficients q)
     gives i j k x r A B D ei ej ek e v eB eD =
         let y : refusal (update_checks 255 60 M n G s0 existing s1 added room p q) ≡ none = sym same ∙ h.none in
         let N = update G (listed n s0 existing) (listed n s1 added) in (
-          rw y (e ∙ ap (λ (z : ℕ). record { outcome = LengthOutcome.Value z }) v.0),
+          rw y (e ∙ ap (λ (z : ℕ). Ok z) v.0),
           (
             rw y (ap (λ (z : List ℕ). z ++ drop a.cells room) (v.1 ∙ ap (λ (z : ℕ). replicate z 0) ei) ∙ ap (λ (z : ℕ). replicate z 0 ++ drop z room) h.cells_are),
             (

@@ -12,23 +12,21 @@
 --   left r once z k old     == a room that held old: z in its first k cells, unless the call refused or asked no room
 --   dimension_room, dimension_first, dimension_second, dimension_sums == the exponent room, the two coefficient rooms and the sum room after the call
 -- Assumes nothing.
-use Rattle.std.specs.Prelude.{◌≡◌, ℕ, Bool, cond, not, ◌||◌, List, [], ◌∷◌, ◌++◌, length, ℤ, pos, ◌==◌, nat_lt, refl}
+use Rattle.std.specs.Prelude.{◌≡◌, ℕ, Bool, cond, not, ◌||◌, List, [], ◌∷◌, ◌++◌, length, ℤ, pos, ◌==◌, nat_lt, refl, Result}
 use Rattle.std.proofs.Math.Option.{Option, none, some}
 use Rattle.laws.specs.Ideal.{listed, unit_in}
 use Rattle.laws.specs.Dimension.{finite, degree_bound, powers_product, dimension, top_degree}
 use Rattle.laws.specs.Room.{cells_asked, coefficients_asked, dimension_words}
-use Rattle.monomials.specs.Refusal.{Check, refusal, after}
+use Rattle.monomials.specs.Refusal.{Check, refusal, answer, after}
 use Rattle.monomials.specs.declared.refusal.Refusal.{Refusal}
 use Rattle.monomials.specs.declared.refusal.Refusal.TheVariants.{SumRoom, Dimension}
 use Rattle.numbers.specs.Wide.{wide}
+use Rattle.numbers.specs.declared.dimension.Dimension.{Dimension as Counted}
 use Rattle.numbers.specs.Hilbert.{value_check}
 use Rattle.numbers.specs.Numerator.{wiped, list_checks, cell_room, coefficient_rooms}
-use Rattle.numbers.specs.declared.dimension.DimensionOutcome.{DimensionOutcome}
-use Rattle.numbers.specs.declared.dimension.DimensionAnswer.{DimensionAnswer}
 
-abbrev pub dimension_is : Option Refusal → ℕ → List (List ℕ) → DimensionAnswer
-dimension_is none n L = record { outcome = DimensionOutcome.Value (record { dimension = wide (dimension n L); top = top_degree n L }) }
-dimension_is (some r) n L = record { outcome = DimensionOutcome.Refused r }
+abbrev pub dimension_is : Option Refusal → ℕ → List (List ℕ) → Result Counted Refusal
+dimension_is r n L = answer r (record { dimension = wide (dimension n L); top = top_degree n L })
 
 abbrev pub at_once : ℕ → List (List ℕ) → Bool
 at_once n L = unit_in L || n == 0
@@ -51,7 +49,7 @@ dimension_checks W C M n s cells room p q sums =
     list_checks W C n s cells
     ++ cond (at_once n (listed n s cells)) [] (bound_checks M n (listed n s cells) ++ room_checks n (listed n s cells) room p q sums)
 
-abbrev pub dimension_answer : ℕ → ℕ → ℕ → ℕ → ℕ → List ℕ → List ℕ → List ℤ → List ℤ → List ℕ → DimensionAnswer
+abbrev pub dimension_answer : ℕ → ℕ → ℕ → ℕ → ℕ → List ℕ → List ℕ → List ℤ → List ℤ → List ℕ → Result Counted Refusal
 dimension_answer W C M n s cells room p q sums = dimension_is (refusal (dimension_checks W C M n s cells room p q sums)) n (listed n s cells)
 
 abbrev pub left : {A : Type 0} → Option Refusal → Bool → A → ℕ → List A → List A

@@ -8,3 +8,5 @@ pub mod RoomsParts
 pub mod Update
 pub mod Dimension
 pub mod DimensionParts
+pub mod BothLists
+pub mod FewParts

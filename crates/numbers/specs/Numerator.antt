@@ -1,5 +1,4 @@
 -- The numerator of a list: the checks in their order, the answer, and what each room then holds. W is the greatest width, C the greatest count.
---   length_answer r k        == the refusal, or else the length k
 --   wiped z k old           == a room that held old, with the value z in its first k cells
 --   padded z k p old        == the same with p in front: p, then z up to the asked size k, then what stood there
 --   too_many C s             == check 2: more than C monomials
@@ -11,20 +10,13 @@
 --   numerator_answer         == the answer: the trimmed length
 --   numerator_room, numerator_first, numerator_second == the exponent room and the two coefficient rooms after the call
 -- Assumes nothing.
-use Rattle.std.specs.Prelude.{ℕ, ◌-◌, ◌*◌, not, ◌||◌, List, [], ◌∷◌, ◌++◌, length, drop, replicate, ℤ, pos, ◌==◌, nat_lt}
-use Rattle.std.proofs.Math.Option.{Option, none, some}
+use Rattle.std.specs.Prelude.{ℕ, ◌-◌, ◌*◌, not, ◌||◌, List, [], ◌∷◌, ◌++◌, length, drop, replicate, ℤ, pos, ◌==◌, nat_lt, Result}
 use Rattle.laws.specs.Ideal.{listed}
 use Rattle.laws.specs.Numerator.{numerator}
 use Rattle.laws.specs.Room.{cells_asked, coefficients_asked}
-use Rattle.monomials.specs.Refusal.{Check, refusal, after, too_wide}
+use Rattle.monomials.specs.Refusal.{Check, refusal, after, too_wide, answer}
 use Rattle.monomials.specs.declared.refusal.Refusal.{Refusal}
 use Rattle.monomials.specs.declared.refusal.Refusal.TheVariants.{Count, Cells, CellRoom, CoefficientRoom}
-use Rattle.numbers.specs.declared.numerator.LengthOutcome.{LengthOutcome}
-use Rattle.numbers.specs.declared.numerator.LengthAnswer.{LengthAnswer}
-
-abbrev pub length_answer : Option Refusal → ℕ → LengthAnswer
-length_answer none k = record { outcome = LengthOutcome.Value k }
-length_answer (some r) k = record { outcome = LengthOutcome.Refused r }
 
 abbrev pub wiped : {A : Type 0} → A → ℕ → List A → List A
 wiped z k old = replicate k z ++ drop k old
@@ -54,8 +46,8 @@ numerator_checks W C n s cells room p q =
     ∷ coefficient_rooms (coefficients_asked (listed n s cells)) p q
     ∷ []
 
-abbrev pub numerator_answer : ℕ → ℕ → ℕ → ℕ → List ℕ → List ℕ → List ℤ → List ℤ → LengthAnswer
-numerator_answer W C n s cells room p q = length_answer (refusal (numerator_checks W C n s cells room p q)) (length (numerator (listed n s cells)))
+abbrev pub numerator_answer : ℕ → ℕ → ℕ → ℕ → List ℕ → List ℕ → List ℤ → List ℤ → Result ℕ Refusal
+numerator_answer W C n s cells room p q = answer (refusal (numerator_checks W C n s cells room p q)) (length (numerator (listed n s cells)))
 
 abbrev pub numerator_room : ℕ → ℕ → ℕ → ℕ → List ℕ → List ℕ → List ℤ → List ℤ → List ℕ
 numerator_room W C n s cells room p q = after (refusal (numerator_checks W C n s cells room p q)) (wiped 0 (cells_asked n (listed n s cells)) room) room

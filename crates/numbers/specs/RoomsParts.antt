@@ -3,14 +3,14 @@
 --   rooms_checks n s xs t ys large least room first second == the checks in their order: 1, 2, 3 first list, 3 second list, 15, 7, 8
 --   rooms_answer n s xs t ys large least room first second == the refusal, if any, or else the sizes asked, of coefficients at least `least`
 -- Assumes nothing.
-use Rattle.std.specs.Prelude.{ℕ, ◌+◌, max, Bool, ◌||◌, List, [], ◌∷◌, ◌++◌, nat_lt}
-use Rattle.std.proofs.Math.Option.{Option-elim}
+use Rattle.std.specs.Prelude.{ℕ, ◌+◌, max, Bool, ◌||◌, List, [], ◌∷◌, ◌++◌, nat_lt, Result}
 use Rattle.laws.specs.Ideal.{listed}
 use Rattle.laws.specs.Room.{cells_asked, coefficients_asked}
-use Rattle.monomials.specs.Refusal.{Check, refusal, too_wide}
+use Rattle.monomials.specs.Refusal.{Check, refusal, answer, too_wide}
+use Rattle.monomials.specs.declared.refusal.Refusal.{Refusal}
 use Rattle.monomials.specs.declared.refusal.Refusal.TheVariants.{Coefficient, CellRoom, CoefficientRoom}
 use Rattle.numbers.specs.Numerator.{not_cells, too_many}
-use Rattle.numbers.specs.declared.asked.Rooms.{Rooms}
+use Rattle.numbers.specs.declared.asked.Sizes.{Sizes}
 
 abbrev pub rooms_checks : ℕ → ℕ → List ℕ → ℕ → List ℕ → Bool → ℕ → ℕ → ℕ → ℕ → List Check
 rooms_checks n s xs t ys large least room first second =
@@ -23,9 +23,8 @@ rooms_checks n s xs t ys large least room first second =
     ∷ (nat_lt first (max (coefficients_asked (listed n s xs ++ listed n t ys)) least) || nat_lt second (max (coefficients_asked (listed n s xs ++ listed n t ys)) least), CoefficientRoom)
     ∷ []
 
-unfoldable pub rooms_answer : ℕ → ℕ → List ℕ → ℕ → List ℕ → Bool → ℕ → ℕ → ℕ → ℕ → Rooms
+unfoldable pub rooms_answer : ℕ → ℕ → List ℕ → ℕ → List ℕ → Bool → ℕ → ℕ → ℕ → ℕ → Result Sizes Refusal
 rooms_answer n s xs t ys large least room first second =
-    Option-elim
+    answer
     (refusal (rooms_checks n s xs t ys large least room first second))
-    (Rooms.Asked (record { cells = cells_asked n (listed n s xs ++ listed n t ys); coefficients = max (coefficients_asked (listed n s xs ++ listed n t ys)) least }))
-    Rooms.Refused
+    (record { cells = cells_asked n (listed n s xs ++ listed n t ys); coefficients = max (coefficients_asked (listed n s xs ++ listed n t ys)) least })

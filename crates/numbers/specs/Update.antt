@@ -6,14 +6,14 @@
 --   update_answer      == the answer: the trimmed length
 --   update_room, update_first, update_second == the exponent room and the two coefficient rooms after the call
 -- Assumes nothing.
-use Rattle.std.specs.Prelude.{◌≡◌, ℕ, ◌+◌, Bool, true, false, ◌||◌, List, [], ◌∷◌, ◌++◌, length, ℤ, pos, negsuc, nat_lt, unsigned_abs, refl}
+use Rattle.std.specs.Prelude.{◌≡◌, ℕ, ◌+◌, Bool, true, false, ◌||◌, List, [], ◌∷◌, ◌++◌, length, ℤ, pos, negsuc, nat_lt, unsigned_abs, refl, Result}
 use Rattle.laws.specs.Ideal.{listed}
 use Rattle.laws.specs.Numerator.{update}
 use Rattle.laws.specs.Room.{cells_asked, update_asked}
-use Rattle.monomials.specs.Refusal.{Check, refusal, after, too_wide}
+use Rattle.monomials.specs.Refusal.{Check, refusal, after, too_wide, answer}
+use Rattle.monomials.specs.declared.refusal.Refusal.{Refusal}
 use Rattle.monomials.specs.declared.refusal.Refusal.TheVariants.{Coefficient}
-use Rattle.numbers.specs.Numerator.{length_answer, wiped, padded, too_many, not_cells, cell_room, coefficient_rooms}
-use Rattle.numbers.specs.declared.numerator.LengthAnswer.{LengthAnswer}
+use Rattle.numbers.specs.Numerator.{wiped, padded, too_many, not_cells, cell_room, coefficient_rooms}
 
 abbrev pub beyond : ℕ → List ℤ → Bool
 beyond M [] = false
@@ -33,9 +33,9 @@ update_checks W C M n G s0 existing s1 added room p q =
     ∷ coefficient_rooms (update_asked G (listed n s0 existing ++ listed n s1 added)) p q
     ∷ []
 
-abbrev pub update_answer : ℕ → ℕ → ℕ → ℕ → List ℤ → ℕ → List ℕ → ℕ → List ℕ → List ℕ → List ℤ → List ℤ → LengthAnswer
+abbrev pub update_answer : ℕ → ℕ → ℕ → ℕ → List ℤ → ℕ → List ℕ → ℕ → List ℕ → List ℕ → List ℤ → List ℤ → Result ℕ Refusal
 update_answer W C M n G s0 existing s1 added room p q =
-    length_answer (refusal (update_checks W C M n G s0 existing s1 added room p q)) (length (update G (listed n s0 existing) (listed n s1 added)))
+    answer (refusal (update_checks W C M n G s0 existing s1 added room p q)) (length (update G (listed n s0 existing) (listed n s1 added)))
 
 abbrev pub update_room : ℕ → ℕ → ℕ → ℕ → List ℤ → ℕ → List ℕ → ℕ → List ℕ → List ℕ → List ℤ → List ℤ → List ℕ
 update_room W C M n G s0 existing s1 added room p q =

@@ -3,7 +3,7 @@ ghost use Rattle.std.specs.Prelude.{◌+◌, ◌*◌, ◌<◌, ◌≤◌, length
 ghost use Rattle.laws.proofs.Branch.{Branched};
 ghost use Rattle.laws.proofs.Column.{above};
 
-use crate::rows::{copy_cells, put_power};
+use crate::rows::put_power;
 
 // The monomials that variable v to the e does not divide, and that power, behind the list; how many.
 pub(crate) fn sum_branch(room: &mut [u16], n: usize, m: usize, v: usize, e: u16) -> usize
@@ -11,16 +11,14 @@ pub(crate) fn sum_branch(room: &mut [u16], n: usize, m: usize, v: usize, e: u16)
     ensures { Branched n m v e room.old result room.new }
 {
     let mut to = m * n;
-    let mut i: usize = 0;
     let mut k: usize = 0;
-    while i < m {
+    for i in 0..m {
         let at = i * n;
         if room[at + v] < e {
-            copy_cells(room, at, to, n);
+            room.copy_within(at..at + n, to);
             to += n;
             k += 1;
         }
-        i += 1;
     }
     put_power(room, to, n, v, e);
     k + 1

@@ -15,6 +15,7 @@ use crate::leaf::leaf;
 use crate::minimal::colon;
 use crate::parts::regroup;
 use crate::pivot::choose;
+use crate::rows::Monomials;
 
 // A list of two parts: the seed times the numerator of the last a monomials is the seed of the first b. A function by itself, so that no
 // other frame holds the array.
@@ -72,23 +73,31 @@ pub(crate) fn add_numerator(
 {
     let mut left = m;
     let mut at = shift;
+    // Not a `for`: the shift grows by the exponent that each turn chooses.
     while at < out.len() {
-        let h = look(room, n, left, seed.len());
-        if h.few {
-            few(room, n, left, false, false, at, seed, out);
+        let list = Monomials {
+            n,
+            count: left,
+            cells: room,
+        };
+        let Some(h) = look(&list, seed.len()) else {
+            few(room, n, left, false, at, seed, out);
             return;
-        }
+        };
         let w = out.len() - at;
-        let b = regroup(room, n, left, h.part, level, w);
-        if b > 0 {
+        if let Some(b) = regroup(room, n, left, h.part, level, w) {
             parts(room, n, b, left - b, at, seed, level + 1, out, scratch);
             return;
         }
-        let p = choose(room, n, left, h.v);
-        if p.count < 2 {
-            leaf(room, n, left, at, seed, out, scratch);
+        let list = Monomials {
+            n,
+            count: left,
+            cells: room,
+        };
+        let Some(p) = choose(&list, h.v) else {
+            leaf(&list, at, seed, out, scratch);
             return;
-        }
+        };
         let k = sum_branch(room, n, left, p.v, p.e);
         let base = left * n;
         add_numerator(&mut room[base..], n, k, at, seed, level, out, scratch);

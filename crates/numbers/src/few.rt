@@ -1,18 +1,17 @@
 // Few monomials: N(L, a) = N(L) - t^deg(a) N(L : a), the last monomial first, the quotients written behind the list; three and fewer by their
 // degrees alone.
-ghost use Rattle.std.specs.Prelude.{◌≡◌, ℕ, ◌+◌, ◌-◌, ◌*◌, ◌<◌, ◌≤◌, true, [], length, pos, slice_index};
+ghost use Rattle.std.specs.Prelude.{◌≡◌, ℕ, ◌+◌, ◌-◌, ◌*◌, ◌^◌, ◌<◌, ◌≤◌, true, [], length, slice_index};
 ghost use Rattle.laws.specs.Coefficients.{coefficient, shift as shifted};
 ghost use Rattle.laws.specs.Monomial.{quotient};
-ghost use Rattle.laws.specs.Numerator.{numerator_at};
 ghost use Rattle.laws.proofs.Added.{AddedTo};
 ghost use Rattle.laws.proofs.Few.{DegreeIs, Quotients, factor, pair};
 ghost use Rattle.laws.proofs.Leaf.{by};
 ghost use Rattle.laws.proofs.Rows.{Wrote, rows};
 ghost use Rattle.laws.proofs.Seed.{seeded};
+ghost use Rattle.numbers.specs.FewParts.{DegreesAre};
 
 use crate::leaf::{add_shifted, degree};
-use crate::minimal::less;
-use crate::rows::row;
+use crate::rows::{Monomials, row};
 
 // The quotient of the n cells from `from` by those from `by`, in n cells from `to`; whether it is the unit.
 fn divide(room: &mut [u16], from: usize, by: usize, to: usize, n: usize) -> bool
@@ -21,16 +20,12 @@ fn divide(room: &mut [u16], from: usize, by: usize, to: usize, n: usize) -> bool
     ensures unit_left { result ≡ true → (j : ℕ) → j < n → slice_index room.old (from + j) - slice_index room.old (by + j) ≡ 0 }
 {
     let mut unit = true;
-    let mut i: usize = 0;
-    while i < n {
-        let x = room[from + i];
-        let y = room[by + i];
-        let z = less(x, y);
+    for i in 0..n {
+        let z = room[from + i].saturating_sub(room[by + i]);
         room[to + i] = z;
         if z > 0 {
             unit = false;
         }
-        i += 1;
     }
     unit
 }
@@ -42,99 +37,76 @@ fn quotients(room: &mut [u16], n: usize, k: usize) -> bool
 {
     let by = k * n;
     let base = by + n;
-    let mut i: usize = 0;
-    while i < k {
+    for i in 0..k {
         if divide(room, i * n, by, base + i * n, n) {
             return true;
         }
-        i += 1;
     }
     false
 }
 
-// Degrees: of the monomials a and b and of the quotient a : b.
+// The degrees of two monomials a and b, and of the quotient a : b.
 #[derive(Clone, Copy)]
-struct Pair {
-    a: usize,
-    b: usize,
-    ab: usize,
+struct Degrees {
+    a: u32,
+    b: u32,
+    ab: u32,
 }
 
-// The same of three: further of c, of a : c and b : c, and of the quotient of these two.
+impl Degrees {
+    const NONE: Degrees = Degrees { a: 0, b: 0, ab: 0 };
+
+    // The exponents x of a and y of b added.
+    fn add(&mut self, x: u16, y: u16)
+        requires { (self.old.a + 65535 < 2 ^ 32) × (self.old.b + 65535 < 2 ^ 32) × (self.old.ab + 65535 < 2 ^ 32) }
+        ensures { (self.new.a ≡ self.old.a + x) × (self.new.b ≡ self.old.b + y) × (self.new.ab ≡ self.old.ab + (x - y)) }
+    {
+        self.a += x as u32;
+        self.b += y as u32;
+        self.ab += x.saturating_sub(y) as u32;
+    }
+}
+
+// The degrees of three monomials: of the first two, of the third c, and of the quotients a : c and b : c.
 #[derive(Clone, Copy)]
-struct Triple {
-    a: usize,
-    b: usize,
-    ab: usize,
-    c: usize,
-    ac: usize,
-    bc: usize,
-    acbc: usize,
+struct Three {
+    first: Degrees,
+    c: u32,
+    by_c: Degrees,
 }
 
 // The degrees of two monomials, in one pass.
-fn pair_degrees(a: &[u16], b: &[u16]) -> Pair
+fn pair_degrees(a: &[u16], b: &[u16]) -> Degrees
     requires { (length a.now ≡ length b.now) × (length a.now ≤ 65536) }
-    ensures { DegreeIs result.a a.now × DegreeIs result.b b.now × DegreeIs result.ab (quotient a.now b.now) }
+    ensures { DegreesAre result a.now b.now }
 {
-    let mut da: u32 = 0;
-    let mut db: u32 = 0;
-    let mut dab: u32 = 0;
-    let mut i: usize = 0;
-    while i < a.len() {
-        let x = a[i];
-        let y = b[i];
-        da += x as u32;
-        db += y as u32;
-        dab += less(x, y) as u32;
-        i += 1;
+    let mut d = Degrees::NONE;
+    for i in 0..a.len() {
+        d.add(a[i], b[i]);
     }
-    Pair {
-        a: da as usize,
-        b: db as usize,
-        ab: dab as usize,
-    }
+    d
 }
 
 // The degrees of three monomials, in one pass.
-fn triple_degrees(a: &[u16], b: &[u16], c: &[u16]) -> Triple
+fn triple_degrees(a: &[u16], b: &[u16], c: &[u16]) -> Three
     requires { (length a.now ≡ length b.now) × (length a.now ≡ length c.now) × (length a.now ≤ 65536) }
-    ensures listed { DegreeIs result.a a.now × DegreeIs result.b b.now × DegreeIs result.ab (quotient a.now b.now) × DegreeIs result.c c.now }
-    ensures quotients { DegreeIs result.ac (quotient a.now c.now) × DegreeIs result.bc (quotient b.now c.now) }
-    ensures quotient_of_quotients { DegreeIs result.acbc (quotient (quotient a.now c.now) (quotient b.now c.now)) }
+    ensures listed { DegreesAre result.first a.now b.now × DegreeIs result.c c.now }
+    ensures quotients { DegreesAre result.by_c (quotient a.now c.now) (quotient b.now c.now) }
 {
-    let mut da: u32 = 0;
-    let mut db: u32 = 0;
-    let mut dab: u32 = 0;
+    let mut first = Degrees::NONE;
     let mut dc: u32 = 0;
-    let mut dac: u32 = 0;
-    let mut dbc: u32 = 0;
-    let mut dacbc: u32 = 0;
-    let mut i: usize = 0;
-    while i < a.len() {
+    let mut by_c = Degrees::NONE;
+    for i in 0..a.len() {
         let x = a[i];
         let y = b[i];
         let z = c[i];
-        let p = less(x, z);
-        let q = less(y, z);
-        da += x as u32;
-        db += y as u32;
-        dab += less(x, y) as u32;
+        let p = x.saturating_sub(z);
+        let q = y.saturating_sub(z);
+        first.add(x, y);
         dc += z as u32;
-        dac += p as u32;
-        dbc += q as u32;
-        dacbc += less(p, q) as u32;
-        i += 1;
+        by_c.add(p, q);
     }
-    Triple {
-        a: da as usize,
-        b: db as usize,
-        ab: dab as usize,
-        c: dc as usize,
-        ac: dac as usize,
-        bc: dbc as usize,
-        acbc: dacbc as usize,
-    }
+    Three { first, c: dc, by_c }
 }
 
 // t^shift times 1 - t^d times the seed, added to out or taken off it, cut at its length.
@@ -147,76 +119,67 @@ fn add_factor(out: &mut [i64], shift: usize, d: usize, seed: &[i64], neg: bool)
 }
 
 // t^shift times the seed times the numerator of a and b by their degrees, 1 - t^a - t^b (1 - t^ab), added to out or taken off it.
-fn add_pair(out: &mut [i64], shift: usize, a: usize, b: usize, ab: usize, seed: &[i64], neg: bool)
-    requires { (shift < 2305843009213693952 + 4294901760) × (a ≤ 4294901760) × (b ≤ 4294901760) × (ab ≤ 4294901760) }
-    ensures { AddedTo (shifted shift (pair seed.now a b ab neg)) out.old out.new }
+fn add_pair(out: &mut [i64], shift: usize, d: Degrees, seed: &[i64], neg: bool)
+    requires { (shift < 2305843009213693952 + 4294901760) × (d.a ≤ 4294901760) × (d.b ≤ 4294901760) × (d.ab ≤ 4294901760) }
+    ensures { AddedTo (shifted shift (pair seed.now d.a d.b d.ab neg)) out.old out.new }
 {
-    add_factor(out, shift + b, ab, seed, !neg);
-    add_factor(out, shift, a, seed, neg);
+    add_factor(out, shift + d.b as usize, d.ab as usize, seed, !neg);
+    add_factor(out, shift, d.a as usize, seed, neg);
 }
 
 // At most three monomials, by degrees alone: N(a, b, c) = N(a, b) - t^deg(c) N(a : c, b : c).
-fn at_most_three(
-    room: &[u16],
-    n: usize,
-    m: usize,
-    neg: bool,
-    shift: usize,
-    seed: &[i64],
-    out: &mut [i64],
-)
-    requires { (m * n ≤ length room.now) × (m ≤ 3) × (n ≤ 65536) × (shift < 2305843009213693952) }
-    ensures { AddedTo (shifted shift (λ k. by neg (seeded (coefficient seed.now) [] (rows n m room.now) k))) out.old out.new }
+fn at_most_three(list: &Monomials, neg: bool, shift: usize, seed: &[i64], out: &mut [i64])
+    requires { (list.now.count ≤ 3) × (list.now.n ≤ 65536) × (shift < 2305843009213693952) }
+    ensures { AddedTo (shifted shift (λ k. by neg (seeded (coefficient seed.now) [] (rows list.now.n list.now.count list.now.cells.now) k))) out.old out.new }
 {
-    if m == 0 {
+    if list.count == 0 {
         add_shifted(out, shift, seed, neg);
         return;
     }
-    let a = row(room, n, 0);
-    if m == 1 {
+    let a = list.row(0);
+    if list.count == 1 {
         add_factor(out, shift, degree(a), seed, neg);
         return;
     }
-    let b = row(room, n, 1);
-    if m == 2 {
-        let d = pair_degrees(a, b);
-        add_pair(out, shift, d.a, d.b, d.ab, seed, neg);
+    let b = list.row(1);
+    if list.count == 2 {
+        add_pair(out, shift, pair_degrees(a, b), seed, neg);
         return;
     }
-    let d = triple_degrees(a, b, row(room, n, 2));
-    add_pair(out, shift + d.c, d.ac, d.bc, d.acbc, seed, !neg);
-    add_pair(out, shift, d.a, d.b, d.ab, seed, neg);
+    let d = triple_degrees(a, b, list.row(2));
+    add_pair(out, shift + d.c as usize, d.by_c, seed, !neg);
+    add_pair(out, shift, d.first, seed, neg);
 }
 
-// t^shift times the seed times the numerator, added to out or taken off it, cut at its length; nothing where `unit` says that the
-// numerator is 0.
+// t^shift times the seed times the numerator, added to out or taken off it, cut at its length.
 pub(crate) fn few(
     room: &mut [u16],
     n: usize,
     m: usize,
-    unit: bool,
     neg: bool,
     shift: usize,
     seed: &[i64],
     out: &mut [i64],
 )
-    requires n_in_bounds { (m * m * n ≤ length room.old) × (n ≤ 65536) × (shift < 2305843009213693952) }
-    requires unit_listed { unit ≡ true → (k : ℕ) → numerator_at (rows n m room.old) k ≡ pos 0 }
+    requires { (m * m * n ≤ length room.old) × (n ≤ 65536) × (shift < 2305843009213693952) }
     ensures { AddedTo (shifted shift (λ k. by neg (seeded (coefficient seed.now) [] (rows n m room.old) k))) out.old out.new }
 {
-    if unit {
-        return;
-    }
     if shift >= out.len() {
         return;
     }
-    let mut left = m;
-    while left > 3 {
-        left -= 1;
+    for left in (3..m).rev() {
         let d = degree(row(room, n, left));
-        let u = quotients(room, n, left);
-        let behind = left * n + n;
-        few(&mut room[behind..], n, left, u, !neg, shift + d, seed, out);
+        let unit = quotients(room, n, left);
+        // A list with the unit has the numerator 0.
+        if !unit {
+            let behind = left * n + n;
+            few(&mut room[behind..], n, left, !neg, shift + d, seed, out);
+        }
     }
-    at_most_three(room, n, left, neg, shift, seed, out);
+    let list = Monomials {
+        n,
+        count: m.min(3),
+        cells: room,
+    };
+    at_most_three(&list, neg, shift, seed, out);
 }

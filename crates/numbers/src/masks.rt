@@ -7,8 +7,8 @@ ghost use Rattle.laws.proofs.Pass.{Thinned};
 
 use crate::columns::greatest_of;
 use crate::minimal::minimalize;
-use crate::rows::row;
-use monomials::divmask::{MaskOutcome, mask};
+use crate::rows::Monomials;
+use monomials::divmask::mask;
 
 // The two words of the mask of a monomial, with thresholds spread up to `most`.
 fn two_words(n: usize, most: u16, row: &[u16]) -> [u64; 2]
@@ -16,63 +16,47 @@ fn two_words(n: usize, most: u16, row: &[u16]) -> [u64; 2]
     ensures { result ≡ mask_of n most row.now }
 {
     let answer = mask(n, most, row);
-    let outcome = answer.outcome;
-    match outcome {
-        MaskOutcome::Value(m) => [m.low, m.high],
-        MaskOutcome::Refused(r) => [0, 0],
+    match answer {
+        Ok(m) => [m.low, m.high],
+        Err(_) => [0, 0],
     }
 }
 
-// The masks of the s monomials, one after another, and zeros behind them.
-fn masks_of(room: &[u16], n: usize, s: usize) -> [[u64; 2]; 60]
-    requires { (s * n ≤ length room.now) × (s ≤ 60) × (n ≤ 255) }
-    ensures { result ≡ map (mask_of n (greatest (take (s * n) room.now))) (listed n s room.now) ++ replicate (60 - s) (0 ∷ 0 ∷ []) }
+// The masks of the monomials, one after another, and zeros behind them.
+fn masks_of(list: &Monomials) -> [[u64; 2]; 60]
+    requires { (list.now.count ≤ 60) × (list.now.n ≤ 255) }
+    ensures { result ≡ map (mask_of list.now.n (greatest (take (list.now.count * list.now.n) list.now.cells.now))) (listed list.now.n list.now.count list.now.cells.now) ++ replicate (60 - list.now.count) (0 ∷ 0 ∷ []) }
 {
-    let e = s * n;
-    let most = greatest_of(&room[0..e]);
+    let most = greatest_of(&list.cells[..list.count * list.n]);
     let mut m = [[0u64; 2]; 60];
-    let mut i: usize = 0;
-    while i < s {
-        m[i] = two_words(n, most, row(room, n, i));
-        i += 1;
+    for i in 0..list.count {
+        m[i] = two_words(list.n, most, list.row(i));
     }
     m
 }
 
-// Whether the masks allow that monomial k divides another one.
-fn may_divide(masks: &[[u64; 2]; 60], s: usize, k: usize) -> bool
-    requires { (s ≤ 60) × (k < s) }
+// Whether the masks allow that monomial k divides another one. They are arrays of two words, and so not for `divides_consistent_with`.
+fn may_divide(masks: &[[u64; 2]], k: usize) -> bool
+    requires { k < length masks.now }
 {
     let a = masks[k];
-    let mut i: usize = 0;
-    while i < s {
-        if i != k {
-            let b = masks[i];
-            if (a[0] & !b[0]) | (a[1] & !b[1]) == 0 {
-                return true;
-            }
-        }
-        i += 1;
-    }
-    false
+    masks
+        .iter()
+        .enumerate()
+        .any(|(i, b)| i != k && (a[0] & !b[0]) | (a[1] & !b[1]) == 0)
 }
 
 // The monomials that the masks allow to divide another one, a bit for each. Where they are few, masks cost more than they save.
-fn dividing(room: &[u16], n: usize, s: usize) -> u64
-    requires { (s * n ≤ length room.now) × (s ≤ 60) × (n ≤ 255) }
+fn dividing(list: &Monomials) -> u64
+    requires { (list.now.count ≤ 60) × (list.now.n ≤ 255) }
 {
-    if s < 16 {
+    if list.count < 16 {
         return 0xffff_ffff_ffff_ffff;
     }
-    let masks = masks_of(room, n, s);
+    let masks = masks_of(list);
     let mut bits: u64 = 0;
-    let mut k = s;
-    while k > 0 {
-        k -= 1;
-        bits = bits << 1;
-        if may_divide(&masks, s, k) {
-            bits = bits | 1;
-        }
+    for k in (0..list.count).rev() {
+        bits = bits << 1 | u64::from(may_divide(&masks[..list.count], k));
     }
     bits
 }
@@ -85,6 +69,10 @@ pub(crate) fn starting_list(room: &mut [u16], n: usize, s: usize) -> usize
     if s <= 6 {
         return s;
     }
-    let having = dividing(room, n, s);
+    let having = dividing(&Monomials {
+        n,
+        count: s,
+        cells: room,
+    });
     minimalize(room, n, s, having)
 }

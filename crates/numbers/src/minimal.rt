@@ -1,45 +1,38 @@
 // Lists made smaller with the same multiples, and the quotients by a power.
-ghost use Rattle.std.specs.Prelude.{◌≡◌, ◌-◌, ◌*◌, ◌<◌, ◌≤◌, true, ◌≢◌, length};
+ghost use Rattle.std.specs.Prelude.{◌≡◌, ◌-◌, ◌*◌, ◌<◌, ◌≤◌, true, ◌≢◌, length, IfSome};
 ghost use Rattle.laws.specs.Monomial.{divides as divides_cells};
 ghost use Rattle.laws.proofs.Rows.{at};
 ghost use Rattle.laws.proofs.Pass.{Thinned, ColonOf};
 
-use crate::rows::{copy_cells, row};
+use crate::rows::Monomials;
 
 // Whether the monomial a divides b.
+// Not the call of `monomials`, which checks both widths each time.
 pub(crate) fn divides(a: &[u16], b: &[u16]) -> bool
     requires { length a.now ≡ length b.now }
     ensures { result ≡ divides_cells a.now b.now }
 {
-    let mut i: usize = 0;
-    while i < a.len() {
-        if a[i] > b[i] {
+    for (v, exponent) in a.iter().enumerate() {
+        if *exponent > b[v] {
             return false;
         }
-        i += 1;
     }
     true
 }
 
-// Another monomial whose bit is set and that divides number i, or m.
-fn divisor(room: &[u16], n: usize, m: usize, i: usize, having: u64) -> usize
-    requires { (m * n ≤ length room.now) × (i < m) }
-    ensures { result < m → (result ≢ i) × (divides_cells (at n result room.now) (at n i room.now) ≡ true) }
+// Another monomial whose bit is set and that divides number i.
+fn divisor(list: &Monomials, i: usize, having: u64) -> Option<usize>
+    requires { i < list.now.count }
+    ensures { IfSome result (λ k. (k < list.now.count) × (k ≢ i) × (divides_cells (at list.now.n k list.now.cells.now) (at list.now.n i list.now.cells.now) ≡ true)) }
 {
     let mut bits = having;
-    let mut k: usize = 0;
-    while k < m {
-        if bits % 2 == 1 {
-            if k != i {
-                if divides(row(room, n, k), row(room, n, i)) {
-                    return k;
-                }
-            }
+    for k in 0..list.count {
+        if bits & 1 == 1 && k != i && divides(list.row(k), list.row(i)) {
+            return Some(k);
         }
-        bits = bits / 2;
-        k += 1;
+        bits >>= 1;
     }
-    m
+    None
 }
 
 // The bits with bit `from` put in the place of bit `to`, both modulo 64: what the rows' exchange does to them.
@@ -57,10 +50,16 @@ pub(crate) fn minimalize(room: &mut [u16], n: usize, m: usize, having: u64) -> u
     let mut left = m;
     let mut i: usize = 0;
     let mut bits = having;
+    // Not a `for`: the last monomial takes the place of one that is dropped, and is looked at there next.
     while i < left {
-        if divisor(room, n, left, i, bits) < left {
+        let list = Monomials {
+            n,
+            count: left,
+            cells: room,
+        };
+        if divisor(&list, i, bits).is_some() {
             left -= 1;
-            copy_cells(room, left * n, i * n, n);
+            room.copy_within(left * n..left * n + n, i * n);
             bits = moved(bits, left, i);
         } else {
             i += 1;
@@ -69,23 +68,14 @@ pub(crate) fn minimalize(room: &mut [u16], n: usize, m: usize, having: u64) -> u
     left
 }
 
-// x less e, and never below 0.
-pub(crate) fn less(x: u16, e: u16) -> u16
-    ensures { result ≡ x - e }
-{
-    if x < e { 0 } else { x - e }
-}
-
 // The list : variable v to the e, without those that one whose bit is set divides; how many.
 pub(crate) fn colon(room: &mut [u16], n: usize, m: usize, v: usize, e: u16, having: u64) -> usize
     requires { (m * n ≤ length room.old) × (v < n) }
     ensures { ColonOf n m v e room.old result room.new }
 {
-    let mut i: usize = 0;
-    while i < m {
+    for i in 0..m {
         let at = i * n + v;
-        room[at] = less(room[at], e);
-        i += 1;
+        room[at] = room[at].saturating_sub(e);
     }
     minimalize(room, n, m, having)
 }

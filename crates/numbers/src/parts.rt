@@ -1,12 +1,11 @@
 // A list in two parts with no variable in common.
-ghost use Rattle.std.specs.Prelude.{◌≡◌, ◌-◌, ◌*◌, ◌<◌, ◌≤◌, true, length, drop};
-ghost use Rattle.laws.proofs.Parts.{Regrouped};
+ghost use Rattle.std.specs.Prelude.{◌≡◌, ◌-◌, ◌*◌, ◌<◌, ◌≤◌, true, length, drop, IfSome};
 ghost use Rattle.laws.proofs.Pass.{Thinned};
 ghost use Rattle.laws.proofs.Rows.{rows};
 ghost use Rattle.laws.proofs.Seed.{Apart};
 
 use crate::pivot::count_above;
-use crate::rows::swap;
+use crate::rows::{Monomials, swap};
 
 // The monomials of the part go last; how many others.
 fn gather(room: &mut [u16], n: usize, m: usize, part: u64) -> usize
@@ -15,64 +14,62 @@ fn gather(room: &mut [u16], n: usize, m: usize, part: u64) -> usize
 {
     let mut bits = part;
     let mut k: usize = 0;
-    let mut i: usize = 0;
-    while i < m {
+    for i in 0..m {
         if bits % 2 == 0 {
             if k < i {
                 swap(room, n, k, i);
             }
             k += 1;
         }
-        bits = bits / 2;
-        i += 1;
+        bits /= 2;
     }
     k
 }
 
 // Whether the first b monomials have no variable in common with the others.
-fn apart(room: &[u16], n: usize, b: usize, m: usize) -> bool
-    requires { (m * n ≤ length room.now) × (b ≤ m) }
-    ensures { result ≡ true → Apart (rows n b room.now) (rows n (m - b) (drop (b * n) room.now)) }
+fn apart(list: &Monomials, b: usize) -> bool
+    requires { b ≤ list.now.count }
+    ensures { result ≡ true → Apart (rows list.now.n b list.now.cells.now) (rows list.now.n (list.now.count - b) (drop (b * list.now.n) list.now.cells.now)) }
 {
-    let mut v: usize = 0;
-    while v < n {
-        if count_above(room, n, b, m, v, 1) > 0 {
-            if count_above(room, n, 0, b, v, 1) > 0 {
-                return false;
-            }
+    let front = Monomials {
+        n: list.n,
+        count: b,
+        cells: list.cells,
+    };
+    for v in 0..list.n {
+        if count_above(list, b, v, 1) > 0 && count_above(&front, 0, v, 1) > 0 {
+            return false;
         }
-        v += 1;
     }
     true
 }
 
-// The same monomials, a part last that has no variable in common with the rest; how many are in the rest, or 0 for no part.
+// The same monomials, a part last that has no variable in common with the rest; how many are in the rest, or nothing for no part.
 pub(crate) fn regroup(
     room: &mut [u16],
     n: usize,
     m: usize,
-    part: u64,
+    part: Option<u64>,
     level: usize,
     w: usize,
-) -> usize
+) -> Option<usize>
     requires { m * n ≤ length room.old }
-    ensures { Regrouped n m level w room.old result room.new }
+    ensures same { Thinned n m room.old m room.new }
+    ensures found { IfSome result (λ b. (level < 16) × (w ≤ 512) × (b < m) × Apart (rows n b room.new) (rows n (m - b) (drop (b * n) room.new))) }
+    ensures some { IfSome result (λ b. 0 < b) }
 {
-    if part == 0 {
-        return 0;
-    }
-    if level >= 16 {
-        return 0;
-    }
-    if w > 512 {
-        return 0;
+    let part = part?;
+    if level >= 16 || w > 512 {
+        return None;
     }
     let b = gather(room, n, m, part);
-    if b >= m {
-        return 0;
+    let list = Monomials {
+        n,
+        count: m,
+        cells: room,
+    };
+    if 0 < b && b < m && apart(&list, b) {
+        return Some(b);
     }
-    if apart(room, n, b, m) {
-        return b;
-    }
-    0
+    None
 }

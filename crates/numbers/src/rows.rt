@@ -2,59 +2,52 @@
 ghost use Rattle.std.specs.Prelude.{◌≡◌, ◌+◌, ◌*◌, ◌<◌, ◌≤◌, ◌⊎◌, length, replicate, slice_index};
 ghost use Rattle.laws.proofs.Rows.{Wrote, at, axis};
 ghost use Rattle.laws.proofs.Pass.{Swapped};
+ghost use Rattle.numbers.specs.DimensionParts.{Cells};
+
+// A list that is only read: count monomials, n exponents each, from the first of the cells on. Not for a list that is changed, which shares its
+// room with what is written behind it, and of whose room each call takes a part.
+#[derive(Clone, Copy)]
+pub(crate) struct Monomials<'a> {
+    pub(crate) n: usize,
+    pub(crate) count: usize,
+    pub(crate) cells: &'a [u16],
+    ghost in_cells: { count * n ≤ length cells.now },
+}
+
+impl Monomials<'_> {
+    // Monomial i.
+    pub(crate) fn row(&self, i: usize) -> &[u16]
+        requires { i < self.now.count }
+        ensures { result.now ≡ at self.now.n i self.now.cells.now }
+    {
+        row(self.cells, self.n, i)
+    }
+
+    // The exponent of variable v in monomial i.
+    pub(crate) fn exponent(&self, i: usize, v: usize) -> u16
+        requires { (i < self.now.count) × (v < self.now.n) }
+        ensures { result ≡ slice_index self.now.cells.now (i * self.now.n + v) }
+    {
+        self.cells[i * self.n + v]
+    }
+}
+
+// A list within the limits of a call: count monomials, n exponents each, in just as many cells. It says more than `Monomials`, which a part of
+// a room is too; `records` has one of its own, since methods stand in the crate of their type.
+#[derive(Clone, Copy)]
+pub(crate) struct CheckedList<'a> {
+    pub(crate) n: usize,
+    pub(crate) count: usize,
+    pub(crate) cells: &'a [u16],
+    ghost checked: { Cells n count cells.now },
+}
 
 // Monomial i, as a part of the room.
 pub(crate) fn row(room: &[u16], n: usize, i: usize) -> &[u16]
     requires { i * n + n ≤ length room.now }
     ensures { result.now ≡ at n i room.now }
 {
-    let a = i * n;
-    let e = a + n;
-    &room[a..e]
-}
-
-// The exponent of variable v in monomial i.
-pub(crate) fn exponent(room: &[u16], n: usize, i: usize, v: usize) -> u16
-    requires { i * n + v < length room.now }
-    ensures { result ≡ slice_index room.now (i * n + v) }
-{
-    room[i * n + v]
-}
-
-// n cells from `from` to `to`.
-pub(crate) fn copy_cells(room: &mut [u16], from: usize, to: usize, n: usize)
-    requires n_in_bounds { (from + n ≤ length room.old) × (to + n ≤ length room.old) }
-    requires apart { (to ≤ from) ⊎ (from + n ≤ to) }
-    ensures { Wrote room.old (λ j. slice_index room.old (from + j)) to n room.new }
-{
-    let mut i: usize = 0;
-    while i < n {
-        room[to + i] = room[from + i];
-        i += 1;
-    }
-}
-
-// The cells, from `to` on.
-pub(crate) fn put_cells(room: &mut [u16], to: usize, cells: &[u16])
-    requires { to + length cells.now ≤ length room.old }
-    ensures { Wrote room.old (λ j. slice_index cells.now j) to (length cells.now) room.new }
-{
-    let mut i: usize = 0;
-    while i < cells.len() {
-        room[to + i] = cells[i];
-        i += 1;
-    }
-}
-
-// Zeros.
-pub(crate) fn wipe(room: &mut [u16])
-    ensures { room.new ≡ replicate (length room.old) 0 }
-{
-    let mut i: usize = 0;
-    while i < room.len() {
-        room[i] = 0;
-        i += 1;
-    }
+    &room[i * n..i * n + n]
 }
 
 // Variable v to the e, in n cells from `to`.
@@ -62,11 +55,7 @@ pub(crate) fn put_power(room: &mut [u16], to: usize, n: usize, v: usize, e: u16)
     requires { (to + n ≤ length room.old) × (v < n) }
     ensures { Wrote room.old (λ j. slice_index (axis v e) j) to n room.new }
 {
-    let mut i: usize = 0;
-    while i < n {
-        room[to + i] = 0;
-        i += 1;
-    }
+    room[to..to + n].fill(0);
     room[to + v] = e;
 }
 
@@ -76,15 +65,6 @@ pub(crate) fn swap(room: &mut [u16], n: usize, i: usize, j: usize)
     ensures { Swapped (i * n) (j * n) room.old n room.new }
 {
     let a = i * n;
-    let b = j * n;
-    let mut t: usize = 0;
-    while t < n {
-        let p = a + t;
-        let q = b + t;
-        let x = room[p];
-        let y = room[q];
-        room[p] = y;
-        room[q] = x;
-        t += 1;
-    }
+    let (front, back) = room.split_at_mut(j * n);
+    front[a..a + n].swap_with_slice(&mut back[..n]);
 }

@@ -3,19 +3,11 @@
 ghost use Rattle.std.specs.Prelude.{◌≡◌, ◌+◌, ◌*◌, ◌^◌, pos, ◌-ℤ◌, neg_ℤ, nat_le, nat_lt};
 ghost use Rattle.numbers.specs.Wide.{value, wide, wide_of, product_answer};
 
-use crate::signed::magnitude;
-
+// Two words and no u128: C is told them word by word.
 #[derive(Clone, Copy)]
 pub struct Wide {
     pub low: u64,
     pub high: u64,
-}
-
-// A product below 2^127, or that it passed.
-#[derive(Clone, Copy)]
-pub enum Product {
-    Exact(Wide),
-    Passed,
 }
 
 impl Wide {
@@ -23,7 +15,7 @@ impl Wide {
 
     pub const ONE: Wide = Wide { low: 1, high: 0 };
 
-    // The number w.
+    // The number w. A public call of this name, and so no `From`; as is `from_signed`.
     pub fn from_word(w: u64) -> Wide
         ensures { result ≡ wide w }
     {
@@ -34,7 +26,7 @@ impl Wide {
     pub fn from_signed(a: i64) -> Wide
         ensures { result ≡ wide_of a }
     {
-        let size = Wide::from_word(magnitude(a));
+        let size = Wide::from_word(a.unsigned_abs());
         if 0 <= a { size } else { size.wrapping_neg() }
     }
 
@@ -42,19 +34,9 @@ impl Wide {
     pub fn wrapping_add(self, other: Wide) -> Wide
         ensures { result ≡ wide (value self + value other) }
     {
-        let low = std::num::wrapping_add_u64(self.low, other.low);
-        let high = std::num::wrapping_add_u64(self.high, other.high);
-        if low < self.low {
-            Wide {
-                low: low,
-                high: std::num::wrapping_add_u64(high, 1),
-            }
-        } else {
-            Wide {
-                low: low,
-                high: high,
-            }
-        }
+        let (low, carry) = self.low.carrying_add(other.low, false);
+        let (high, _) = self.high.carrying_add(other.high, carry);
+        Wide { low, high }
     }
 
     // The negative modulo 2^128.
@@ -62,8 +44,8 @@ impl Wide {
         ensures { result ≡ wide_of (neg_ℤ (pos (value self))) }
     {
         let flipped = Wide {
-            low: u64::MAX - self.low,
-            high: u64::MAX - self.high,
+            low: !self.low,
+            high: !self.high,
         };
         flipped.wrapping_add(Wide::ONE)
     }
@@ -75,15 +57,11 @@ impl Wide {
         self.wrapping_add(other.wrapping_neg())
     }
 
-    // Whether self is below other, both unsigned.
+    // Whether self is below other, both unsigned. By hand: a derived order would take low before high.
     pub fn less_than(self, other: Wide) -> bool
         ensures { result ≡ nat_lt (value self) (value other) }
     {
-        if self.high == other.high {
-            self.low < other.low
-        } else {
-            self.high < other.high
-        }
+        (self.high, self.low) < (other.high, other.low)
     }
 
     // Whether the number is 2^127 or more; read as a signed number, whether it is negative.
@@ -97,38 +75,30 @@ impl Wide {
     pub fn product(a: u64, b: u64) -> Wide
         ensures { result ≡ wide (a * b) }
     {
-        let a0 = a % 0x1_0000_0000;
-        let a1 = a / 0x1_0000_0000;
-        let b0 = b % 0x1_0000_0000;
-        let b1 = b / 0x1_0000_0000;
-        let low = Wide {
-            low: a0 * b0,
-            high: a1 * b1,
-        };
-        low.wrapping_add(middle(a0 * b1))
-            .wrapping_add(middle(a1 * b0))
+        let (low, high) = a.carrying_mul(b, 0);
+        Wide { low, high }
     }
 
-    // The product with a word, where it is below 2^127.
-    pub fn times(self, w: u64) -> Product
+    // The product with a word, where it is below 2^127; none where it passes that.
+    pub fn times(self, w: u64) -> Option<Wide>
         ensures { result ≡ product_answer (value self * w) }
     {
         let low = Wide::product(self.low, w);
         let high = Wide::product(self.high, w);
         if high.high != 0 {
-            return Product::Passed;
+            return None;
         }
         if low.is_large() {
-            return Product::Passed;
+            return None;
         }
         if 0x8000_0000_0000_0000 <= high.low {
-            return Product::Passed;
+            return None;
         }
         let top = low.high + high.low;
         if 0x8000_0000_0000_0000 <= top {
-            return Product::Passed;
+            return None;
         }
-        Product::Exact(Wide {
+        Some(Wide {
             low: low.low,
             high: top,
         })
@@ -139,15 +109,5 @@ impl Wide {
 pub fn add_into(total: &mut Wide, x: Wide)
     ensures { total.new ≡ wide (value total.old + value x) }
 {
-    *total = Wide::wrapping_add(*total, x);
-}
-
-// 2^32 times m.
-fn middle(m: u64) -> Wide
-    ensures { result ≡ wide (2 ^ 32 * m) }
-{
-    Wide {
-        low: m % 0x1_0000_0000 * 0x1_0000_0000,
-        high: m / 0x1_0000_0000,
-    }
+    *total = total.wrapping_add(x);
 }

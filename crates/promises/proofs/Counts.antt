@@ -43,22 +43,16 @@ use Rattle.laws.proofs.Pigeonhole.{pigeonhole, once_distinct}
 use Rattle.laws.proofs.Sums.{sums_injective}
 use Rattle.laws.proofs.Update.{update_coefficient, update_trimmed, update_direct}
 use Rattle.laws.proofs.Word.{pair_words}
-use Rattle.monomials.specs.Refusal.{Check, refusal, after}
+use Rattle.monomials.specs.Refusal.{Check, refusal, after, answer}
 use Rattle.monomials.specs.declared.refusal.Refusal.{Refusal}
 use Rattle.monomials.specs.declared.refusal.Refusal.TheVariants.{Width, Count, Cells, SumRoom, Degree, Value, Record, Dimension, Output}
 use Rattle.numbers.specs.Wide.{value, wide, wide_of, signed_value}
 use Rattle.numbers.specs.Dimension.{dimension_is, at_once, no_dimension, bound_checks, room_checks, dimension_checks}
-use Rattle.numbers.specs.Hilbert.{signed_answer, value_check, hilbert_checks}
-use Rattle.numbers.specs.Numerator.{length_answer, padded, numerator_checks}
+use Rattle.numbers.specs.Hilbert.{value_check, hilbert_checks}
+use Rattle.numbers.specs.Numerator.{padded, numerator_checks}
 use Rattle.numbers.specs.Update.{update_checks}
 use Rattle.numbers.specs.declared.wide.Wide.{Wide}
 use Rattle.numbers.specs.declared.dimension.Dimension.{Dimension as DimensionValue}
-use Rattle.numbers.specs.declared.dimension.DimensionOutcome.{DimensionOutcome}
-use Rattle.numbers.specs.declared.dimension.DimensionAnswer.{DimensionAnswer}
-use Rattle.numbers.specs.declared.hf_at.SignedOutcome.{SignedOutcome}
-use Rattle.numbers.specs.declared.hf_at.SignedAnswer.{SignedAnswer}
-use Rattle.numbers.specs.declared.numerator.LengthOutcome.{LengthOutcome}
-use Rattle.numbers.specs.declared.numerator.LengthAnswer.{LengthAnswer}
 use Rattle.numbers.proofs.SignedValue.{hilbert_exact}
 use Rattle.numbers.proofs.numerator.hilbert_numerator.Reads as hilbert_numerator_call
 use Rattle.numbers.proofs.update.add_generators.Reads as add_generators_call
@@ -71,6 +65,8 @@ use Rattle.promises.specs.Promise.{Slice, MutSlice, ◌⨾◌, Signed64}
 use Rattle.promises.proofs.Checks.{passes, done_none}
 use Rattle.promises.proofs.Given.{numerator_done, dimension_done}
 use Rattle.promises.proofs.Refusals.{purlthicket_dim}
+use Rattle.std.specs.Prelude.{Result, Ok}
+use Rattle.numbers.specs.declared.dimension.Dimension.{Dimension as Counted}
 
 -- "HF(d) is the number of degree-d monomials in n variables that are no multiple": HF counts over this list, which has each monomial of
 -- degree d in n variables exactly once, and nothing else.
@@ -83,7 +79,7 @@ enumerated n d u = go (eqb (length u) n) (eqb (degree u) d) refl refl
     go false t p q = enumeration_other_width n u d (eqb-false (length u) n p)
 
 -- an answer with the length k: nothing was refused, and the first k of the coefficient room are the coefficients N
-coefficients_there : (o : Option Refusal) (N p : List ℤ) (asked k : ℕ) → (length_answer o (length N)).outcome ≡ LengthOutcome.Value k
+coefficients_there : (o : Option Refusal) (N p : List ℤ) (asked k : ℕ) → (answer o (length N)) ≡ Ok k
     → (length N ≡ k) × (take k (after o (padded (pos 0) asked N p) p) ≡ N) × (o ≡ none)
 coefficients_there none N p asked k e = let h : length N ≡ k = cc in let zeros = replicate (asked - length N) (pos 0) in (h, ap (take k) (append_assoc N zeros (drop asked p)) ∙ take_at N (zeros ++ drop asked p) k h, refl)
 coefficients_there (some r) N p asked k e = let z : ◌≡◌ {A = ℕ} 0 1 = cc in absurd (omega arith)
@@ -96,25 +92,25 @@ counted s t a b cs e =
     eqb-true a b (not-false (eqb a b) (passes (not (eqb a b)) Cells cs many.1).0)
 
 -- A list within the limits, with the rooms as asked, is not refused.
-pub numerator_given : (κs : Lfts 4) (n s : ℕ) (cells : Slice ℕ) (room : MutSlice ℕ) (first second : MutSlice ℤ) (r : LengthAnswer) (room' : MutSlice ℕ) (first' second' : MutSlice ℤ)
+pub numerator_given : (κs : Lfts 4) (n s : ℕ) (cells : Slice ℕ) (room : MutSlice ℕ) (first second : MutSlice ℤ) (r : Result ℕ Refusal) (room' : MutSlice ℕ) (first' second' : MutSlice ℤ)
     → hilbert_numerator_call.Post κs (n ⨾ s ⨾ cells ⨾ room ⨾ first ⨾ second ⨾ tt) r (n ⨾ s ⨾ cells ⨾ room' ⨾ first' ⨾ second' ⨾ tt)
     → n ≤ 255 → s ≤ 60 → length cells.now ≡ s * n
     → cells_asked n (listed n s cells.now) ≤ length room.now
     → coefficients_asked (listed n s cells.now) ≤ length first.now
     → coefficients_asked (listed n s cells.now) ≤ length second.now
-    → (k : ℕ) × (r.outcome ≡ LengthOutcome.Value k)
+    → (k : ℕ) × (r ≡ Ok k)
 numerator_given κs n s cells room first second r room' first' second' outcome w m i c a b =
     let k = length (numerator (listed n s cells.now)) in
-    (k, ap (λ (y : LengthAnswer). y.outcome) outcome.0 ∙ ap (λ (o : Option Refusal). (length_answer o k).outcome) (numerator_done n s cells.now room.now first.now second.now w m i c a b))
+    (k, outcome.0 ∙ ap (λ (o : Option Refusal). (answer o k)) (numerator_done n s cells.now room.now first.now second.now w m i c a b))
 
-module _ (κs : Lfts 4) (n s : ℕ) (cells : Slice ℕ) (room : MutSlice ℕ) (first second : MutSlice ℤ) (r : LengthAnswer) (room' : MutSlice ℕ) (first' second' : MutSlice ℤ)
+module _ (κs : Lfts 4) (n s : ℕ) (cells : Slice ℕ) (room : MutSlice ℕ) (first second : MutSlice ℤ) (r : Result ℕ Refusal) (room' : MutSlice ℕ) (first' second' : MutSlice ℤ)
     (outcome : hilbert_numerator_call.Post κs (n ⨾ s ⨾ cells ⨾ room ⨾ first ⨾ second ⨾ tt) r (n ⨾ s ⨾ cells ⨾ room' ⨾ first' ⨾ second' ⨾ tt))
-    (k : ℕ) (answer : r.outcome ≡ LengthOutcome.Value k) where
+    (k : ℕ) (answer : r ≡ Ok k) where
   there : (length (numerator (listed n s cells.now)) ≡ k) × (take k first'.now ≡ numerator (listed n s cells.now))
   there =
       let L : List (List ℕ) = listed n s cells.now in
       let o = refusal (numerator_checks 255 60 n s cells.now room.now first.now second.now) in
-      let e = coefficients_there o (numerator L) first.now (coefficients_asked L) k (ap (λ (a : LengthAnswer). a.outcome) (sym outcome.0) ∙ answer) in
+      let e = coefficients_there o (numerator L) first.now (coefficients_asked L) k ((sym outcome.0) ∙ answer) in
       (e.0, ap (take k) outcome.1.1.0 ∙ e.1)
 
   -- "The numerator gives for each degree the number of monomials that no listed one divides": the coefficients in the first room are trimmed,
@@ -144,16 +140,16 @@ update_right n G L K w h =
     ∙ sym (update_coefficient N L K i)
     ∙ ap (λ (p : List ℤ). coefficient p i) (update_direct L K))
 
-module _ (κs : Lfts 6) (n : ℕ) (given : Slice ℤ) (s0 : ℕ) (existing : Slice ℕ) (s1 : ℕ) (added : Slice ℕ) (room : MutSlice ℕ) (first second : MutSlice ℤ) (r : LengthAnswer)
+module _ (κs : Lfts 6) (n : ℕ) (given : Slice ℤ) (s0 : ℕ) (existing : Slice ℕ) (s1 : ℕ) (added : Slice ℕ) (room : MutSlice ℕ) (first second : MutSlice ℤ) (r : Result ℕ Refusal)
     (room' : MutSlice ℕ) (first' second' : MutSlice ℤ)
     (outcome : add_generators_call.Post κs (n ⨾ given ⨾ s0 ⨾ existing ⨾ s1 ⨾ added ⨾ room ⨾ first ⨾ second ⨾ tt) r (n ⨾ given ⨾ s0 ⨾ existing ⨾ s1 ⨾ added ⨾ room' ⨾ first' ⨾ second' ⨾ tt))
-    (k : ℕ) (answer : r.outcome ≡ LengthOutcome.Value k) where
+    (k : ℕ) (answer : r ≡ Ok k) where
   updated : let U = update given.now (listed n s0 existing.now) (listed n s1 added.now) in (length U ≡ k) × (take k first'.now ≡ U) × (length existing.now ≡ s0 * n)
   updated =
       let L : List (List ℕ) = listed n s0 existing.now in
       let K : List (List ℕ) = listed n s1 added.now in
       let cs = update_checks 255 60 (2 ^ 61) n given.now s0 existing.now s1 added.now room.now first.now second.now in
-      let e = coefficients_there (refusal cs) (update given.now L K) first.now (update_asked given.now (L ++ K)) k (ap (λ (a : LengthAnswer). a.outcome) (sym outcome.0) ∙ answer) in
+      let e = coefficients_there (refusal cs) (update given.now L K) first.now (update_asked given.now (L ++ K)) k ((sym outcome.0) ∙ answer) in
       (e.0, ap (take k) outcome.1.1.0 ∙ e.1, counted (ltb 255 n) (ltb 60 (s0 + s1)) (length existing.now) (s0 * n) (drop 3 cs) e.2)
 
   -- "The answer is G + N(existing and new) − N(existing), trimmed."
@@ -178,9 +174,9 @@ module _ (κs : Lfts 6) (n : ℕ) (given : Slice ℤ) (s0 : ℕ) (existing : Sli
 
   -- and the coefficients are those that the numerator's call gives for both lists together.
   pub update_direct_call : ((d : ℕ) → hilbert given.now n d ≡ pos (HF (listed n s0 existing.now) n d))
-      → (λs : Lfts 4) (cells : Slice ℕ) (space : MutSlice ℕ) (p q : MutSlice ℤ) (a : LengthAnswer) (space' : MutSlice ℕ) (p' q' : MutSlice ℤ)
+      → (λs : Lfts 4) (cells : Slice ℕ) (space : MutSlice ℕ) (p q : MutSlice ℤ) (a : Result ℕ Refusal) (space' : MutSlice ℕ) (p' q' : MutSlice ℤ)
       → hilbert_numerator_call.Post λs (n ⨾ s0 + s1 ⨾ cells ⨾ space ⨾ p ⨾ q ⨾ tt) a (n ⨾ s0 + s1 ⨾ cells ⨾ space' ⨾ p' ⨾ q' ⨾ tt)
-      → cells.now ≡ existing.now ++ added.now → (j : ℕ) → a.outcome ≡ LengthOutcome.Value j
+      → cells.now ≡ existing.now ++ added.now → (j : ℕ) → a ≡ Ok j
       → (k ≡ j) × (take k first'.now ≡ take j p'.now)
   update_direct_call h λs cells space p q a space' p' q' direct joined j e =
       let L : List (List ℕ) = listed n s0 existing.now in
@@ -191,7 +187,7 @@ module _ (κs : Lfts 6) (n : ℕ) (given : Slice ℤ) (s0 : ℕ) (existing : Sli
       (sym updated.0 ∙ ap length (same ∙ ap numerator (sym both)) ∙ l, updated.1 ∙ same ∙ ap numerator (sym both) ∙ sym t)
 
 -- an answer with the value w: nothing was refused, and w is the integer z
-signed_there : (o : Option Refusal) (z : ℤ) (w : Wide) → (signed_answer o z).outcome ≡ SignedOutcome.Value w → (o ≡ none) × (wide_of z ≡ w)
+signed_there : (o : Option Refusal) (z : ℤ) (w : Wide) → (answer o (wide_of z)) ≡ Ok w → (o ≡ none) × (wide_of z ≡ w)
 signed_there none z w e = (refl, cc)
 signed_there (some r) z w e = let y : ◌≡◌ {A = ℕ} 0 1 = cc in absurd (omega arith)
 
@@ -202,14 +198,14 @@ last_passes a b c t e =
     let high = passes b Degree ((c, SumRoom) ∷ (t, Value) ∷ []) wide.1 in
     (passes t Value [] (passes c SumRoom ((t, Value) ∷ []) high.1).1).0
 
-module _ (κs : Lfts 2) (n : ℕ) (given : Slice ℤ) (d : ℕ) (sums : MutSlice ℕ) (r : SignedAnswer) (sums' : MutSlice ℕ)
+module _ (κs : Lfts 2) (n : ℕ) (given : Slice ℤ) (d : ℕ) (sums : MutSlice ℕ) (r : Result Wide Refusal) (sums' : MutSlice ℕ)
     (outcome : hf_at_call.Post κs (n ⨾ given ⨾ d ⨾ sums ⨾ tt) r (n ⨾ given ⨾ d ⨾ sums' ⨾ tt))
-    (w : Wide) (answer : r.outcome ≡ SignedOutcome.Value w) where
+    (w : Wide) (answer : r ≡ Ok w) where
   -- "`hf_at` takes any coefficient list and answers a signed 128-bit number": the binomial sum.
   pub hf_at_value : Signed64 given.now → signed_value w ≡ hilbert given.now n d
   hf_at_value fits =
       let p = given.now in
-      let (o, e) = signed_there (refusal (hilbert_checks 255 65536 n p d sums.now)) (hilbert p n d) w (ap (λ (a : SignedAnswer). a.outcome) (sym outcome.0) ∙ answer) in
+      let (o, e) = signed_there (refusal (hilbert_checks 255 65536 n p d sums.now)) (hilbert p n d) w ((sym outcome.0) ∙ answer) in
       let small = leb-false (2 ^ 127) (hilbert_size p n d) (last_passes (ltb 255 n) (ltb 65536 d) (ltb (length sums.now) (4 * (d + 1))) (leb (2 ^ 127) (hilbert_size p n d)) o) in
       ap signed_value (sym e) ∙ hilbert_exact p n d (fits d) small
 
@@ -277,14 +273,14 @@ accepted n s cells room p q sums e =
 bounded_by : (M n : ℕ) (L : List (List ℕ)) → finite n L ≡ true → degree_bound n L ≤ M → no_dimension M n L ≡ false
 bounded_by M n L f b = rw (f, le-ltb M (degree_bound n L) b)
 
-dimension_there : (o : Option Refusal) (n : ℕ) (L : List (List ℕ)) (x : DimensionValue) → (dimension_is o n L).outcome ≡ DimensionOutcome.Value x
+dimension_there : (o : Option Refusal) (n : ℕ) (L : List (List ℕ)) (x : DimensionValue) → (dimension_is o n L) ≡ Ok x
     → (o ≡ none) × (wide (dimension n L) ≡ x.dimension) × (top_degree n L ≡ x.top)
 dimension_there none n L x e = let h : record { dimension = wide (dimension n L); top = top_degree n L } ≡ x = cc in (refl, ap (λ (y : DimensionValue). y.dimension) h, ap (λ (y : DimensionValue). y.top) h)
 dimension_there (some r) n L x e = let z : ◌≡◌ {A = ℕ} 0 1 = cc in absurd (omega arith)
 
 -- A list within the limits, with a pure power of each variable and the rooms as asked, is not refused; one with a unit, or of width 0, asks
 -- nothing more.
-pub dimension_given : (κs : Lfts 5) (n s : ℕ) (cells : Slice ℕ) (room : MutSlice ℕ) (first second : MutSlice ℤ) (sums : MutSlice ℕ) (r : DimensionAnswer) (room' : MutSlice ℕ) (first' second' : MutSlice ℤ) (sums' : MutSlice ℕ)
+pub dimension_given : (κs : Lfts 5) (n s : ℕ) (cells : Slice ℕ) (room : MutSlice ℕ) (first second : MutSlice ℤ) (sums : MutSlice ℕ) (r : Result Counted Refusal) (room' : MutSlice ℕ) (first' second' : MutSlice ℤ) (sums' : MutSlice ℕ)
     → quotient_dimension_call.Post κs (n ⨾ s ⨾ cells ⨾ room ⨾ first ⨾ second ⨾ sums ⨾ tt) r (n ⨾ s ⨾ cells ⨾ room' ⨾ first' ⨾ second' ⨾ sums' ⨾ tt)
     → n ≤ 255 → s ≤ 60 → length cells.now ≡ s * n
     → (at_once n (listed n s cells.now) ≡ false
@@ -295,7 +291,7 @@ pub dimension_given : (κs : Lfts 5) (n s : ℕ) (cells : Slice ℕ) (room : Mut
     × (coefficients_asked (listed n s cells.now) ≤ length first.now)
     × (coefficients_asked (listed n s cells.now) ≤ length second.now)
     × (2 * (degree_bound n (listed n s cells.now) + 1) ≤ length sums.now))
-    → (x : DimensionValue) × (r.outcome ≡ DimensionOutcome.Value x)
+    → (x : DimensionValue) × (r ≡ Ok x)
 dimension_given κs n s cells room first second sums r room' first' second' sums' outcome w m i enough =
     let L : List (List ℕ) = listed n s cells.now in
     let none_refused = dimension_done n s cells.now room.now first.now second.now sums.now w m i
@@ -303,16 +299,16 @@ dimension_given κs n s cells room first second sums r room' first' second' sums
     let (p, b, c, d, e, f, g) = enough once in
     (bounded_by 65536 n L (power_finite n L p) b, c, d, e, f, g)) in (
       record { dimension = wide (dimension n L); top = top_degree n L },
-      ap (λ (y : DimensionAnswer). y.outcome) outcome.0 ∙ ap (λ (o : Option Refusal). (dimension_is o n L).outcome) none_refused,
+      outcome.0 ∙ ap (λ (o : Option Refusal). (dimension_is o n L)) none_refused,
     )
 
-module _ (κs : Lfts 5) (n s : ℕ) (cells : Slice ℕ) (room : MutSlice ℕ) (first second : MutSlice ℤ) (sums : MutSlice ℕ) (r : DimensionAnswer) (room' : MutSlice ℕ) (first' second' : MutSlice ℤ) (sums' : MutSlice ℕ)
+module _ (κs : Lfts 5) (n s : ℕ) (cells : Slice ℕ) (room : MutSlice ℕ) (first second : MutSlice ℤ) (sums : MutSlice ℕ) (r : Result Counted Refusal) (room' : MutSlice ℕ) (first' second' : MutSlice ℤ) (sums' : MutSlice ℕ)
     (outcome : quotient_dimension_call.Post κs (n ⨾ s ⨾ cells ⨾ room ⨾ first ⨾ second ⨾ sums ⨾ tt) r (n ⨾ s ⨾ cells ⨾ room' ⨾ first' ⨾ second' ⨾ sums' ⨾ tt))
-    (x : DimensionValue) (answer : r.outcome ≡ DimensionOutcome.Value x) where
+    (x : DimensionValue) (answer : r ≡ Ok x) where
   given_dimension : Finite n (listed n s cells.now) × (wide (dimension n (listed n s cells.now)) ≡ x.dimension) × (top_degree n (listed n s cells.now) ≡ x.top)
   given_dimension =
       let L : List (List ℕ) = listed n s cells.now in
-      let (o, e, t) = dimension_there (refusal (dimension_checks 255 60 65536 n s cells.now room.now first.now second.now sums.now)) n L x (ap (λ (a : DimensionAnswer). a.outcome) (sym outcome.0) ∙ answer) in
+      let (o, e, t) = dimension_there (refusal (dimension_checks 255 60 65536 n s cells.now room.now first.now second.now sums.now)) n L x ((sym outcome.0) ∙ answer) in
       (accepted n s cells.now room.now first.now second.now sums.now o, e, t)
 
   -- "A dimension is the count of all such monomials": the length of a list that has each of them exactly once and nothing else.

@@ -22,22 +22,17 @@ use Rattle.laws.specs.Record.{ideal_record, width_in, list_in}
 use Rattle.laws.specs.Room.{pairs, cells_asked, coefficients_asked, update_asked}
 use Rattle.laws.proofs.Enumeration.{equal_eq}
 use Rattle.laws.proofs.Monomial.{and_left, and_right}
-use Rattle.monomials.specs.Refusal.{refusal, after}
+use Rattle.monomials.specs.Refusal.{refusal, after, answer}
 use Rattle.monomials.specs.declared.refusal.Refusal.{Refusal}
 use Rattle.monomials.specs.declared.refusal.Refusal.TheVariants.{Output}
 use Rattle.numbers.specs.Dimension.{at_once, no_dimension, dimension_is, dimension_answer}
 use Rattle.numbers.specs.Update.{beyond, update_checks, update_answer, update_first}
-use Rattle.numbers.specs.Hilbert.{signed_answer, hilbert_answer}
+use Rattle.numbers.specs.Hilbert.{hilbert_answer}
 use Rattle.numbers.specs.Wide.{value, wide, wide_of, signed_value}
-use Rattle.numbers.specs.Numerator.{length_answer, padded, numerator_checks, numerator_answer, numerator_first}
-use Rattle.numbers.specs.declared.dimension.DimensionAnswer.{DimensionAnswer}
-use Rattle.numbers.specs.declared.hf_at.SignedAnswer.{SignedAnswer}
-use Rattle.numbers.specs.declared.numerator.LengthOutcome.{LengthOutcome}
-use Rattle.numbers.specs.declared.numerator.LengthAnswer.{LengthAnswer}
+use Rattle.numbers.specs.Numerator.{padded, numerator_checks, numerator_answer, numerator_first}
 use Rattle.records.specs.Answer.{answer_of as answer_bytes_of}
 use Rattle.records.specs.Host.{record_checks, host_checks, host_number, status}
 use Rattle.records.specs.Ideal.{not_record, write_checks, write_answer, write_bytes}
-use Rattle.records.specs.declared.ideal.SizeAnswer.{SizeAnswer}
 use Rattle.records.proofs.host.purlthicket_dim.Reads as purlthicket_dim_call
 use Rattle.bridge.specs.Told.{number_in}
 use Rattle.bridge.specs.Numbers.{of_dimension}
@@ -47,6 +42,9 @@ use Rattle.promises.proofs.Refusals.{purlthicket_dim}
 use Rattle.promises.proofs.Given.{numerator_done, update_done, value_done, dimension_done, writes}
 use Rattle.promises.proofs.Records.{bytes_put}
 use Rattle.promises.specs.Stars.Row.{coefficients, counts, dimension_of, no_dimension_of, record_of, answer_of, sizes, updated, value_at}
+use Rattle.std.specs.Prelude.{Result, Ok}
+use Rattle.numbers.specs.declared.wide.Wide.{Wide}
+use Rattle.numbers.specs.declared.dimension.Dimension.{Dimension as Counted}
 
 -- the tests
 
@@ -128,7 +126,7 @@ list_fits n s cells h =
 
 -- coefficients of a call that refuses nothing
 coefficients_put : (o : Option Refusal) (M N p : List ℤ) (asked : ℕ) → o ≡ none → M ≡ N
-    → ((length_answer o (length M)).outcome ≡ LengthOutcome.Value (length N)) × (take (length N) (after o (padded (pos 0) asked M p) p) ≡ N)
+    → ((answer o (length M)) ≡ Ok (length N)) × (take (length N) (after o (padded (pos 0) asked M p) p) ≡ N)
 coefficients_put o M N p asked h e =
     let zeros = replicate (asked - length N) (pos 0) in
     rw (h, e) (refl, ap (take (length N)) (append_assoc N zeros (drop asked p)) ∙ take_at N (zeros ++ drop asked p) (length N) refl)
@@ -140,7 +138,7 @@ coefficients_hold n s cells N h κs list room first second r room' first' second
     let (w, m, i) = list_fits n s cells f in
     let none_refused = numerator_done n s cells room.now first.now second.now w m i c k l in
     let (a, b) = coefficients_put (refusal (numerator_checks 255 60 n s cells room.now first.now second.now)) (numerator L) N first.now (coefficients_asked L) none_refused (same_all_eq (numerator L) N g) in (
-      ap (λ (y : LengthAnswer). y.outcome) (p.0 ∙ ap (λ (cs : List ℕ). numerator_answer 255 60 n s cs room.now first.now second.now) e) ∙ a,
+      (p.0 ∙ ap (λ (cs : List ℕ). numerator_answer 255 60 n s cs room.now first.now second.now) e) ∙ a,
       ap (take (length N)) (p.1.1.0 ∙ ap (λ (cs : List ℕ). numerator_first 255 60 n s cs room.now first.now second.now) e) ∙ b,
     )
 
@@ -160,7 +158,7 @@ dimension_holds n s cells x h κs list room first second sums r room' first' sec
     let (j, k, l, t) = enough once in
     (not-true (no_dimension 65536 n L) c, ltb-true (powers_product n L) (2 ^ 127) d, j, k, l, t)) in (
       record { dimension = wide (dimension n L); top = top_degree n L },
-      ap (λ (y : DimensionAnswer). y.outcome) (p.0 ∙ ap (λ (cs : List ℕ). dimension_answer 255 60 65536 n s cs room.now first.now second.now sums.now) e) ∙ ap (λ (v : Option Refusal). (dimension_is v n L).outcome) o,
+      (p.0 ∙ ap (λ (cs : List ℕ). dimension_answer 255 60 65536 n s cs room.now first.now second.now sums.now) e) ∙ ap (λ (v : Option Refusal). (dimension_is v n L)) o,
       eqb-true (value (wide (dimension n L))) x b,
     )
 
@@ -170,7 +168,7 @@ no_dimension_holds n s cells h κs list room first second sums r room' first' se
     let (f, g) = both (is_list n s cells) (not (at_once n L) && no_dimension 65536 n L) h in
     let (a, b) = both (not (at_once n L)) (no_dimension 65536 n L) g in
     let (w, m, i) = list_fits n s cells f in
-    ap (λ (y : DimensionAnswer). number_in (of_dimension y)) (p.0 ∙ ap (λ (cs : List ℕ). dimension_answer 255 60 65536 n s cs room.now first.now second.now sums.now) e)
+    ap (λ (y : Result Counted Refusal). number_in (of_dimension y)) (p.0 ∙ ap (λ (cs : List ℕ). dimension_answer 255 60 65536 n s cs room.now first.now second.now sums.now) e)
     ∙ dimension_refused n s cells room.now first.now second.now sums.now w m i (not-true (at_once n L) a) b
 
 record_holds : (n s : ℕ) (cells bytes : List ℕ) → test (record_of n s cells bytes) ≡ true → Says (record_of n s cells bytes)
@@ -181,7 +179,7 @@ record_holds n s cells bytes h κs list out r out' p e l =
     let written = equal_eq (ideal_record n L) bytes g in
     let o = writes n s cells out.now w m i (subst (λ (z : ℕ). z ≤ length out.now) (sym (ap length written)) l) in
     let (a, b) = bytes_put (refusal (write_checks 255 60 n s cells out.now)) (ideal_record n L) bytes out.now o written in (
-      ap (λ (y : SizeAnswer). y.outcome) (p.0 ∙ ap (λ (cs : List ℕ). write_answer 255 60 n s cs out.now) e) ∙ a,
+      (p.0 ∙ ap (λ (cs : List ℕ). write_answer 255 60 n s cs out.now) e) ∙ a,
       ap (take (length bytes)) (p.1 ∙ ap (λ (cs : List ℕ). write_bytes 255 60 n s cs out.now) e) ∙ b,
     )
 
@@ -220,7 +218,7 @@ update_holds n G s0 existing s1 added N h κs given old new room first second r 
     let (b, f) = both (not (beyond (2 ^ 61) G)) (same_all U N) h₄ in
     let o = update_done n G s0 existing s1 added room.now first.now second.now (leb-true n 255 w) (leb-true (s0 + s1) 60 m) (eqb-true (length existing) (s0 * n) i) (eqb-true (length added) (s1 * n) j) (not-true (beyond (2 ^ 61) G) b) c k l in
     let (x, y) = coefficients_put (refusal (update_checks 255 60 (2 ^ 61) n G s0 existing s1 added room.now first.now second.now)) U N first.now asked o (same_all_eq U N f) in (
-      ap (λ (a : LengthAnswer). a.outcome)
+      ap (λ (a : Result ℕ Refusal). a)
           (p.0
           ∙ ap (λ (g : List ℤ). update_answer 255 60 (2 ^ 61) n g s0 old.now s1 new.now room.now first.now second.now) eg
           ∙ ap₂ (λ (a b : List ℕ). update_answer 255 60 (2 ^ 61) n G s0 a s1 b room.now first.now second.now) eo en)
@@ -240,7 +238,7 @@ value_holds p n d z h κs given sums r sums' o e l =
     let (b, f) = both (ltb (hilbert_size p n d) (2 ^ 127)) (same (signed_value (wide_of x)) z) h₂ in
     let none_refused = value_done n p d sums.now (leb-true n 255 w) (leb-true d 65536 m) (ltb-true (hilbert_size p n d) (2 ^ 127) b) l in (
       wide_of x,
-      ap (λ (a : SignedAnswer). a.outcome) (o.0 ∙ ap (λ (g : List ℤ). hilbert_answer 255 65536 n g d sums.now) e) ∙ ap (λ (v : Option Refusal). (signed_answer v x).outcome) none_refused,
+      (o.0 ∙ ap (λ (g : List ℤ). hilbert_answer 255 65536 n g d sums.now) e) ∙ ap (λ (v : Option Refusal). (answer v (wide_of x))) none_refused,
       same_eq (signed_value (wide_of x)) z f,
     )
 

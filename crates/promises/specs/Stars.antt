@@ -15,24 +15,18 @@ use Rattle.laws.specs.Room.{pairs, cells_asked, coefficients_asked, update_asked
 use Rattle.numbers.specs.Dimension.{at_once}
 use Rattle.numbers.specs.Wide.{value, signed_value}
 use Rattle.numbers.specs.declared.dimension.Dimension.{Dimension}
-use Rattle.numbers.specs.declared.dimension.DimensionOutcome.{DimensionOutcome}
-use Rattle.numbers.specs.declared.dimension.DimensionAnswer.{DimensionAnswer}
-use Rattle.numbers.specs.declared.hf_at.SignedOutcome.{SignedOutcome}
-use Rattle.numbers.specs.declared.hf_at.SignedAnswer.{SignedAnswer}
-use Rattle.numbers.specs.declared.numerator.LengthOutcome.{LengthOutcome}
-use Rattle.numbers.specs.declared.numerator.LengthAnswer.{LengthAnswer}
 use Rattle.numbers.specs.declared.wide.Wide.{Wide}
 use Rattle.numbers.proofs.dimension.quotient_dimension.Reads as quotient_dimension_call
 use Rattle.numbers.proofs.hf_at.hf_at.Reads as hf_at_call
 use Rattle.numbers.proofs.numerator.hilbert_numerator.Reads as hilbert_numerator_call
 use Rattle.numbers.proofs.update.add_generators.Reads as add_generators_call
-use Rattle.records.specs.declared.ideal.SizeOutcome.{SizeOutcome}
-use Rattle.records.specs.declared.ideal.SizeAnswer.{SizeAnswer}
 use Rattle.records.proofs.ideal.write_record.Reads as write_record_call
 use Rattle.records.proofs.host.purlthicket_dim.Reads as purlthicket_dim_call
 use Rattle.bridge.specs.Told.{number_in}
 use Rattle.bridge.specs.Numbers.{of_dimension}
 use Rattle.promises.specs.Promise.{Slice, MutSlice, ◌⨾◌}
+use Rattle.std.specs.Prelude.{Result, Ok}
+use Rattle.monomials.specs.declared.refusal.Refusal.{Refusal}
 
 pub data Row : Type 0 where
   -- the numerator's coefficients
@@ -55,16 +49,16 @@ pub data Row : Type 0 where
 
 abbrev pub Says : Row → Type 0
 Says (coefficients n s cells N) =
-    (κs : Lfts 4) (list : Slice ℕ) (room : MutSlice ℕ) (first second : MutSlice ℤ) (r : LengthAnswer) (room' : MutSlice ℕ) (first' second' : MutSlice ℤ)
+    (κs : Lfts 4) (list : Slice ℕ) (room : MutSlice ℕ) (first second : MutSlice ℤ) (r : Result ℕ Refusal) (room' : MutSlice ℕ) (first' second' : MutSlice ℤ)
     → hilbert_numerator_call.Post κs (n ⨾ s ⨾ list ⨾ room ⨾ first ⨾ second ⨾ tt) r (n ⨾ s ⨾ list ⨾ room' ⨾ first' ⨾ second' ⨾ tt)
     → list.now ≡ cells
     → cells_asked n (listed n s cells) ≤ length room.now
     → coefficients_asked (listed n s cells) ≤ length first.now
     → coefficients_asked (listed n s cells) ≤ length second.now
-    → (r.outcome ≡ LengthOutcome.Value (length N)) × (take (length N) first'.now ≡ N)
+    → (r ≡ Ok (length N)) × (take (length N) first'.now ≡ N)
 Says (counts n s cells values) = first (length values) (HF (listed n s cells) n) ≡ values
 Says (dimension_of n s cells x) =
-    (κs : Lfts 5) (list : Slice ℕ) (room : MutSlice ℕ) (first second : MutSlice ℤ) (sums : MutSlice ℕ) (r : DimensionAnswer) (room' : MutSlice ℕ) (first' second' : MutSlice ℤ) (sums' : MutSlice ℕ)
+    (κs : Lfts 5) (list : Slice ℕ) (room : MutSlice ℕ) (first second : MutSlice ℤ) (sums : MutSlice ℕ) (r : Result Dimension Refusal) (room' : MutSlice ℕ) (first' second' : MutSlice ℤ) (sums' : MutSlice ℕ)
     → quotient_dimension_call.Post κs (n ⨾ s ⨾ list ⨾ room ⨾ first ⨾ second ⨾ sums ⨾ tt) r (n ⨾ s ⨾ list ⨾ room' ⨾ first' ⨾ second' ⨾ sums' ⨾ tt)
     → list.now ≡ cells
     → (at_once n (listed n s cells) ≡ false
@@ -72,18 +66,18 @@ Says (dimension_of n s cells x) =
     × (coefficients_asked (listed n s cells) ≤ length first.now)
     × (coefficients_asked (listed n s cells) ≤ length second.now)
     × (2 * (degree_bound n (listed n s cells) + 1) ≤ length sums.now))
-    → (y : Dimension) × (r.outcome ≡ DimensionOutcome.Value y) × (value y.dimension ≡ x)
+    → (y : Dimension) × (r ≡ Ok y) × (value y.dimension ≡ x)
 Says (no_dimension_of n s cells) =
-    (κs : Lfts 5) (list : Slice ℕ) (room : MutSlice ℕ) (first second : MutSlice ℤ) (sums : MutSlice ℕ) (r : DimensionAnswer) (room' : MutSlice ℕ) (first' second' : MutSlice ℤ) (sums' : MutSlice ℕ)
+    (κs : Lfts 5) (list : Slice ℕ) (room : MutSlice ℕ) (first second : MutSlice ℤ) (sums : MutSlice ℕ) (r : Result Dimension Refusal) (room' : MutSlice ℕ) (first' second' : MutSlice ℤ) (sums' : MutSlice ℕ)
     → quotient_dimension_call.Post κs (n ⨾ s ⨾ list ⨾ room ⨾ first ⨾ second ⨾ sums ⨾ tt) r (n ⨾ s ⨾ list ⨾ room' ⨾ first' ⨾ second' ⨾ sums' ⨾ tt)
     → list.now ≡ cells
     → number_in (of_dimension r) ≡ 13
 Says (record_of n s cells bytes) =
-    (κs : Lfts 2) (list : Slice ℕ) (out : MutSlice ℕ) (r : SizeAnswer) (out' : MutSlice ℕ)
+    (κs : Lfts 2) (list : Slice ℕ) (out : MutSlice ℕ) (r : Result ℕ Refusal) (out' : MutSlice ℕ)
     → write_record_call.Post κs (n ⨾ s ⨾ list ⨾ out ⨾ tt) r (n ⨾ s ⨾ list ⨾ out' ⨾ tt)
     → list.now ≡ cells
     → length bytes ≤ length out.now
-    → (r.outcome ≡ SizeOutcome.Value (length bytes)) × (take (length bytes) out'.now ≡ bytes)
+    → (r ≡ Ok (length bytes)) × (take (length bytes) out'.now ≡ bytes)
 Says (answer_of n s cells bytes) =
     (κs : Lfts 2) (rec : Slice ℕ) (out : MutSlice ℕ) (r : ℕ) (out' : MutSlice ℕ)
     → purlthicket_dim_call.Post κs (rec ⨾ out ⨾ tt) r (rec ⨾ out' ⨾ tt)
@@ -92,7 +86,7 @@ Says (answer_of n s cells bytes) =
     → (r ≡ 0) × (take 26 out'.now ≡ bytes)
 Says (sizes n s cells e c k) = (pairs n (listed n s cells) ≡ e) × (cells_asked n (listed n s cells) ≡ c) × (coefficients_asked (listed n s cells) ≡ k)
 Says (updated n G s0 existing s1 added N) =
-    (κs : Lfts 6) (given : Slice ℤ) (old new : Slice ℕ) (room : MutSlice ℕ) (first second : MutSlice ℤ) (r : LengthAnswer) (room' : MutSlice ℕ) (first' second' : MutSlice ℤ)
+    (κs : Lfts 6) (given : Slice ℤ) (old new : Slice ℕ) (room : MutSlice ℕ) (first second : MutSlice ℤ) (r : Result ℕ Refusal) (room' : MutSlice ℕ) (first' second' : MutSlice ℤ)
     → add_generators_call.Post κs (n ⨾ given ⨾ s0 ⨾ old ⨾ s1 ⨾ new ⨾ room ⨾ first ⨾ second ⨾ tt) r (n ⨾ given ⨾ s0 ⨾ old ⨾ s1 ⨾ new ⨾ room' ⨾ first' ⨾ second' ⨾ tt)
     → given.now ≡ G
     → old.now ≡ existing
@@ -100,13 +94,13 @@ Says (updated n G s0 existing s1 added N) =
     → cells_asked n (listed n s0 existing ++ listed n s1 added) ≤ length room.now
     → update_asked G (listed n s0 existing ++ listed n s1 added) ≤ length first.now
     → update_asked G (listed n s0 existing ++ listed n s1 added) ≤ length second.now
-    → (r.outcome ≡ LengthOutcome.Value (length N)) × (take (length N) first'.now ≡ N)
+    → (r ≡ Ok (length N)) × (take (length N) first'.now ≡ N)
 Says (value_at p n d z) =
-    (κs : Lfts 2) (given : Slice ℤ) (sums : MutSlice ℕ) (r : SignedAnswer) (sums' : MutSlice ℕ)
+    (κs : Lfts 2) (given : Slice ℤ) (sums : MutSlice ℕ) (r : Result Wide Refusal) (sums' : MutSlice ℕ)
     → hf_at_call.Post κs (n ⨾ given ⨾ d ⨾ sums ⨾ tt) r (n ⨾ given ⨾ d ⨾ sums' ⨾ tt)
     → given.now ≡ p
     → 4 * (d + 1) ≤ length sums.now
-    → (w : Wide) × (r.outcome ≡ SignedOutcome.Value w) × (signed_value w ≡ z)
+    → (w : Wide) × (r ≡ Ok w) × (signed_value w ≡ z)
 
 abbrev pub SaysLine : List Row → Type 0
 SaysLine [] = Unit {0}

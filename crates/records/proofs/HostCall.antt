@@ -5,8 +5,7 @@
 --   top_fits                       so the top degree of a record's answer fits four bytes
 --   short_is                       what the contract says where the output has no room for an answer record
 --   roomy, roomy_bytes, told_is    and where it has: 12 and the dimension's checks decide, and the record's answer is written
---   told_written                   how an answer is told
---   status_is                      the number of the call's answer
+--   done_number, refused_number    the number of the call's answer
 --   copied_shape, copied_refused   what copying a record into cells enough for every record tells
 --   record_area, record_fits       how many cells these are
 --   record_dimension, no_record_dimension   the dimension of what was copied is the record's answer
@@ -31,23 +30,21 @@ use Rattle.laws.proofs.Dimension.{dimension_unit, dimension_no_variables, dimens
 use Rattle.laws.proofs.Ideal.{listed_width}
 use Rattle.laws.proofs.Reading.{byte_at, record_tests}
 use Rattle.laws.proofs.Word.{pair_words}
-use Rattle.monomials.specs.Refusal.{Check, refusal, number, too_wide, after}
+use Rattle.monomials.specs.Refusal.{Check, refusal, number, too_wide, after, answer}
 use Rattle.monomials.specs.declared.refusal.Refusal.{Refusal}
 use Rattle.monomials.specs.declared.refusal.Refusal.TheVariants.{Width as TooWide, Count, Cells, Place, Exponent, Division, CellRoom, CoefficientRoom, SumRoom, Degree, Value, Record, Dimension, Output, Coefficient}
 use Rattle.numbers.specs.Wide.{value, wide}
 use Rattle.numbers.specs.Numerator.{list_checks, too_many, not_cells, cell_room, coefficient_rooms}
 use Rattle.numbers.specs.Dimension.{at_once, no_dimension, bound_checks, sum_room, room_checks, dimension_checks, dimension_answer, dimension_is}
-use Rattle.records.specs.Answer.{answer_of, answer_bytes}
-use Rattle.records.specs.Ideal.{check_answer, shape_answer, not_record, copy_checks, copy_answer, copy_cells}
+use Rattle.records.specs.Answer.{answer_of}
+use Rattle.records.specs.Ideal.{not_record, copy_checks, copy_answer, copy_cells}
 use Rattle.records.specs.Host.{own_cells, own_coefficients, own_words, record_checks, host_checks, status, host_answer, host_number, host_bytes}
-use Rattle.records.specs.HostParts.{record_answer, refused_as, status_of, told_bytes, told_of}
+use Rattle.records.specs.HostParts.{record_answer, told, told_bytes}
 use Rattle.records.specs.Rows.{Ample}
-use Rattle.records.specs.declared.host.Told.{Told}
-use Rattle.records.specs.declared.ideal.CheckOutcome.{CheckOutcome}
-use Rattle.records.specs.declared.ideal.CheckAnswer.{CheckAnswer}
+use Rattle.numbers.specs.declared.dimension.Dimension.{Dimension as Counted}
+use Rattle.std.specs.Prelude.{Result, Ok, Err, ⊤, IfOk}
+use Rattle.monomials.proofs.Outcomes.{ok_passes, ok_value, err_refuses}
 use Rattle.records.specs.declared.ideal.Shape.{Shape}
-use Rattle.records.specs.declared.ideal.CopyOutcome.{CopyOutcome}
-use Rattle.records.specs.declared.ideal.CopyAnswer.{CopyAnswer}
 use Rattle.records.proofs.Answers.{copy_none, copy_passes, a_record, no_record}
 use Rattle.records.proofs.Cells.{area}
 use Rattle.records.proofs.Standing.{record_header, header_fits}
@@ -78,9 +75,9 @@ still_pass (c ∷ cs) ds p q = let (h, g) = first_passes c cs p in rw h (still_p
 
 -- rooms as large or larger
 
-done_of : (r r' : Option Refusal) (n : ℕ) (L : List (List ℕ)) → (r ≡ none → r' ≡ none) → (a : Told) → a ≡ told_of (dimension_is r n L) → a.outcome ≡ CheckOutcome.Done → a ≡ told_of (dimension_is r' n L)
-done_of none r' n L f a e v = rw (f refl) e
-done_of (some r) r' n L f a e v = let z : ◌≡◌ {A = ℕ} 0 1 = cc (sym v ∙ ap (λ (b : Told). b.outcome) e) in absurd (omega arith)
+done_of : (r r' : Option Refusal) (n : ℕ) (L : List (List ℕ)) → (r ≡ none → r' ≡ none) → (x : Counted) → Ok x ≡ dimension_is r n L → Ok x ≡ dimension_is r' n L
+done_of none r' n L f x e = rw (f refl) e
+done_of (some r) r' n L f x e = let z : ◌≡◌ {A = ℕ} 0 1 = cc in absurd (omega arith)
 
 either_false : (a : Bool) → (a || a) ≡ false → a ≡ false
 either_false true e = e
@@ -108,13 +105,13 @@ module _ (room room' : List ℕ) (p p' : List ℤ) (sums sums' : List ℕ) (h : 
           let (x, y) = both_pass (bound_checks M n (listed n s cells)) (room_checks n (listed n s cells) room p p sums) b in
           still_pass (bound_checks M n (listed n s cells)) (room_checks n (listed n s cells) room' p' p' sums') x (rooms_pass n (listed n s cells) y)
 
-  larger_rooms : (W C M n s : ℕ) (cells : List ℕ) (a : Told) → a ≡ told_of (dimension_answer W C M n s cells room p p sums) → a.outcome ≡ CheckOutcome.Done → a ≡ told_of (dimension_answer W C M n s cells room' p' p' sums')
+  larger_rooms : (W C M n s : ℕ) (cells : List ℕ) (x : Counted) → Ok x ≡ dimension_answer W C M n s cells room p p sums → Ok x ≡ dimension_answer W C M n s cells room' p' p' sums'
   larger_rooms W C M n s cells = done_of (refusal (dimension_checks W C M n s cells room p p sums)) (refusal (dimension_checks W C M n s cells room' p' p' sums')) n (listed n s cells) (checks_pass W C M n s cells)
 
 -- the call's own rooms hold more than rooms of these sizes
-pub own_rooms : (k j i : ℕ) → k ≤ 16384 → j ≤ 4096 → i ≤ 4096 → (W C M n s : ℕ) (cells : List ℕ) (a : Told)
-    → a ≡ told_of (dimension_answer W C M n s cells (replicate k 0) (replicate j (pos 0)) (replicate j (pos 0)) (replicate i 0)) → a.outcome ≡ CheckOutcome.Done
-    → a ≡ told_of (dimension_answer W C M n s cells own_cells own_coefficients own_coefficients own_words)
+pub own_rooms : (k j i : ℕ) → k ≤ 16384 → j ≤ 4096 → i ≤ 4096 → (W C M n s : ℕ) (cells : List ℕ) (x : Counted)
+    → Ok x ≡ dimension_answer W C M n s cells (replicate k 0) (replicate j (pos 0)) (replicate j (pos 0)) (replicate i 0)
+    → Ok x ≡ dimension_answer W C M n s cells own_cells own_coefficients own_coefficients own_words
 own_rooms k j i h g f =
     larger_rooms (replicate k 0) own_cells (replicate j (pos 0)) own_coefficients (replicate i 0) own_words
     (rw (length-replicate {A = ℕ} k 0, length-replicate {A = ℕ} 16384 0) h)
@@ -176,14 +173,11 @@ number_there Dimension = refl
 number_there Output = refl
 number_there Coefficient = refl
 
-abbrev outcome_as : Told → CheckAnswer
-outcome_as t = record { outcome = t.outcome }
-
-told_outcome : (o : Option Refusal) (n : ℕ) (L : List (List ℕ)) → record { outcome = (told_of (dimension_is o n L)).outcome } ≡ check_answer o
+told_outcome : (o : Option Refusal) (n : ℕ) (L : List (List ℕ)) → told (dimension_is o n L) ≡ answer o tt
 told_outcome none n L = refl
 told_outcome (some x) n L = refl
 
-told_bytes_lem : (o : Option Refusal) (n : ℕ) (L : List (List ℕ)) → (o ≡ none → dimension n L < 2 ^ 127) → told_bytes (told_of (dimension_is o n L)) ≡ answer_of (status o) (dimension n L) (top_degree n L)
+told_bytes_lem : (o : Option Refusal) (n : ℕ) (L : List (List ℕ)) → (o ≡ none → dimension n L < 2 ^ 127) → told_bytes (dimension_is o n L) ≡ answer_of (status o) (dimension n L) (top_degree n L)
 told_bytes_lem none n L h = ap (λ (x : ℕ). answer_of 0 x (top_degree n L)) (value_exact (dimension n L) (h refl))
 told_bytes_lem (some x) n L h = rw (number_there x)
 
@@ -193,17 +187,17 @@ module _ (W C M : ℕ) (rec : List ℕ) where
       dimension_small W C M (width_in rec) (count_in rec) (exponents_in rec) own_cells own_coefficients own_coefficients own_words
       (first_passes (not_record C rec) (record_checks W C M rec) e).1
 
-  pub top_fits : M < 2 ^ 32 → (told_of (record_answer W C M rec)).top < 2 ^ 32
+  pub top_fits : M < 2 ^ 32 → IfOk (record_answer W C M rec) (λ counted. counted.top < 2 ^ 32)
   top_fits m = go (refusal (not_record C rec ∷ record_checks W C M rec)) refl
     where
-      go : (o : Option Refusal) → refusal (not_record C rec ∷ record_checks W C M rec) ≡ o → (told_of (dimension_is o (width_in rec) (list_in rec))).top < 2 ^ 32
+      go : (o : Option Refusal) → refusal (not_record C rec ∷ record_checks W C M rec) ≡ o → IfOk (dimension_is o (width_in rec) (list_in rec)) (λ counted. counted.top < 2 ^ 32)
       go none e = lt_of_le_of_lt (passed e).1 m
-      go (some x) e = lit< tt
+      go (some x) e = tt
 
   module _ (S : ℕ) (out : List ℕ) where
-    pub short_is : length out < S → (check_answer (some Output) ≡ host_answer W C M S rec out) × (out ≡ host_bytes W C M S rec out)
+    pub short_is : length out < S → (answer (some Output) tt ≡ host_answer W C M S rec out) × (out ≡ host_bytes W C M S rec out)
     short_is h = (
-      ap (λ (t : Bool). check_answer (cond t (some Output) (refusal (not_record C rec ∷ record_checks W C M rec)))) (sym (lt-ltb (length out) S h)),
+      ap (λ (t : Bool). answer (cond t (some Output) (refusal (not_record C rec ∷ record_checks W C M rec))) tt) (sym (lt-ltb (length out) S h)),
       ap (λ (t : Bool). after (cond t (some Output) none) (answer_of (host_number W C M S rec out) (dimension (width_in rec) (list_in rec)) (top_degree (width_in rec) (list_in rec)) ++ drop S out) out) (sym (lt-ltb (length out) S h)),
     )
 
@@ -216,54 +210,49 @@ module _ (W C M : ℕ) (rec : List ℕ) where
     roomy_bytes h =
         ap (λ (t : Bool). after (cond t (some Output) none) (answer_of (host_number W C M S rec out) (dimension (width_in rec) (list_in rec)) (top_degree (width_in rec) (list_in rec)) ++ drop S out) out) (le-ltb (length out) S h)
 
-    pub told_is : S ≤ length out → (a : Told) (r : CheckAnswer) (d : List ℕ) → a ≡ told_of (record_answer W C M rec) → r ≡ record { outcome = a.outcome } → d ≡ told_bytes a ++ drop S out
+    pub told_is : S ≤ length out → (r : Result ⊤ Refusal) (d : List ℕ) → r ≡ told (record_answer W C M rec) → d ≡ told_bytes (record_answer W C M rec) ++ drop S out
         → (r ≡ host_answer W C M S rec out) × (d ≡ host_bytes W C M S rec out)
-    told_is h a r d ea er ed = (
-      er ∙ ap outcome_as ea ∙ told_outcome (refusal (not_record C rec ∷ record_checks W C M rec)) (width_in rec) (list_in rec) ∙ ap check_answer (sym (roomy h)),
+    told_is h r d er ed = (
+      er ∙ told_outcome (refusal (not_record C rec ∷ record_checks W C M rec)) (width_in rec) (list_in rec) ∙ ap (λ (o : Option Refusal). answer {A = ⊤} o tt) (sym (roomy h)),
       ed
-          ∙ ap (λ (x : Told). told_bytes x ++ drop S out) ea
           ∙ ap (λ (x : List ℕ). x ++ drop S out) (told_bytes_lem (refusal (not_record C rec ∷ record_checks W C M rec)) (width_in rec) (list_in rec) (λ e. (passed e).0))
           ∙ ap (λ (o : Option Refusal). answer_of (status o) (dimension (width_in rec) (list_in rec)) (top_degree (width_in rec) (list_in rec)) ++ drop S out) (sym (roomy h))
           ∙ sym (roomy_bytes h),
     )
 
--- an answer that is told
-pub told_written : (S : ℕ) (t : Told) (out d : List ℕ) (k : ℕ) → S ≤ length out → k ≡ status_of t.outcome → d ≡ answer_bytes S k (value t.dimension) t.top out → d ≡ told_bytes t ++ drop S out
-told_written S t out d k h f e =
-    e
-    ∙ ap (λ (j : ℕ). answer_bytes S j (value t.dimension) t.top out) f
-    ∙ ap (λ (b : Bool). after (cond b (some Output) none) (told_bytes t ++ drop S out) out) (le-ltb (length out) S h)
-
 -- the number of an answer
 
-pub status_is : (o : Option Refusal) (a : CheckAnswer) → a ≡ check_answer o → status_of a.outcome ≡ status o
-status_is none a e = ap (λ (b : CheckAnswer). status_of b.outcome) e
-status_is (some x) a e = ap (λ (b : CheckAnswer). status_of b.outcome) e
+pub done_number : (o : Option Refusal) → Ok tt ≡ answer {A = ⊤} o tt → 0 ≡ status o
+done_number none e = refl
+done_number (some x) e = let z : ◌≡◌ {A = ℕ} 0 1 = cc in absurd (omega arith)
+
+pub refused_number : (o : Option Refusal) (x : Refusal) → Err x ≡ answer {A = ⊤} o tt → number x ≡ status o
+refused_number o x e = rw (err_refuses {A = ⊤} o tt x (sym e))
 
 -- what was copied
 
-module _ (C : ℕ) (rec cells : List ℕ) (a : CopyAnswer) (e : a ≡ copy_answer C rec cells) where
-  outcome_is : (o : Option Refusal) → refusal (copy_checks C rec cells) ≡ o → a.outcome ≡ (shape_answer o (width_in rec) (count_in rec)).outcome
-  outcome_is o h = ap (λ (x : CopyAnswer). x.outcome) e ∙ ap (λ (x : Option Refusal). (shape_answer x (width_in rec) (count_in rec)).outcome) h
-
+module _ (C : ℕ) (rec cells : List ℕ) where
   -- a shape is a record's
-  pub copied_shape : (s : Shape) → a.outcome ≡ CopyOutcome.Value s → (is_record C rec ≡ true) × (s.n ≡ width_in rec) × (s.m ≡ count_in rec) × (copy_cells C rec cells ≡ exponents_in rec ++ drop (count_in rec * width_in rec) cells)
-  copied_shape s h = go (refusal (copy_checks C rec cells)) refl
-    where
-      go : (o : Option Refusal) → refusal (copy_checks C rec cells) ≡ o → (is_record C rec ≡ true) × (s.n ≡ width_in rec) × (s.m ≡ count_in rec) × (copy_cells C rec cells ≡ exponents_in rec ++ drop (count_in rec * width_in rec) cells)
-      go none k =
-          let y = outcome_is none k in
-          let z : s ≡ record { n = width_in rec; m = count_in rec } = cc in
-          (not-false (is_record C rec) (first_passes (not_record C rec) ((ltb (length cells) (count_in rec * width_in rec), Output) ∷ []) k).0, ap (λ (x : Shape). x.n) z, ap (λ (x : Shape). x.m) z, ap (λ (x : Option Refusal). after x (exponents_in rec ++ drop (count_in rec * width_in rec) cells) cells) k)
-      go (some x) k = let y = outcome_is (some x) k in let z : ◌≡◌ {A = ℕ} 0 1 = cc in absurd (omega arith)
+  pub copied_shape : (s : Shape) → Ok s ≡ copy_answer C rec cells → (is_record C rec ≡ true) × (s.n ≡ width_in rec) × (s.m ≡ count_in rec) × (copy_cells C rec cells ≡ exponents_in rec ++ drop (count_in rec * width_in rec) cells)
+  copied_shape s e =
+      let own : Shape = record { n = width_in rec; m = count_in rec } in
+      let k = ok_passes (refusal (copy_checks C rec cells)) own s (sym e) in
+      let z = ok_value (refusal (copy_checks C rec cells)) own s (sym e) in
+      (not-false (is_record C rec) (first_passes (not_record C rec) ((ltb (length cells) (count_in rec * width_in rec), Output) ∷ []) k).0, ap (λ (x : Shape). x.n) z, ap (λ (x : Shape). x.m) z, ap (λ (x : Option Refusal). after x (exponents_in rec ++ drop (count_in rec * width_in rec) cells) cells) k)
 
   -- with cells enough for every record only 12 is refused
-  pub copied_refused : (x : Refusal) → a.outcome ≡ CopyOutcome.Refused x → (is_record C rec ≡ true → count_in rec * width_in rec ≤ length cells) → (is_record C rec ≡ false) × (x ≡ Record)
-  copied_refused x h l = go (is_record C rec) refl
+  pub copied_refused : (x : Refusal) → Err x ≡ copy_answer C rec cells → (is_record C rec ≡ true → count_in rec * width_in rec ≤ length cells) → (is_record C rec ≡ false) × (x ≡ Record)
+  copied_refused x e l = go (is_record C rec) refl
     where
+      own : Shape
+      own = record { n = width_in rec; m = count_in rec }
+
+      refused : refusal (copy_checks C rec cells) ≡ some x
+      refused = err_refuses (refusal (copy_checks C rec cells)) own x (sym e)
+
       go : (t : Bool) → is_record C rec ≡ t → (t ≡ false) × (x ≡ Record)
-      go true k = let y = outcome_is none (copy_passes C rec cells k (l k)) in let z : ◌≡◌ {A = ℕ} 0 1 = cc in absurd (omega arith)
-      go false k = let y = outcome_is (some Record) (copy_none C rec cells k) in (refl, cc)
+      go true k = let y = copy_passes C rec cells k (l k) in let z : ◌≡◌ {A = ℕ} 0 1 = cc (sym y ∙ refused) in absurd (omega arith)
+      go false k = let y = copy_none C rec cells k in (refl, cc (sym refused ∙ y))
 
 -- all exponents of a record find room in so many cells
 pub record_area : (rec : List ℕ) → are_bytes rec ≡ true → is_record 60 rec ≡ true → count_in rec * width_in rec ≤ 15300
@@ -277,17 +266,17 @@ record_fits rec cells h a e = header_fits rec cells h a (record_header 60 rec h 
 -- the dimension of what was copied
 
 module _ (W C M : ℕ) (rec : List ℕ) where
-  pub record_dimension : (n m : ℕ) (cells : List ℕ) (r : Told) → is_record C rec ≡ true → n ≡ width_in rec → m ≡ count_in rec → cells ≡ exponents_in rec
-      → r ≡ told_of (dimension_answer W C M n m cells own_cells own_coefficients own_coefficients own_words) → r ≡ told_of (record_answer W C M rec)
+  pub record_dimension : (n m : ℕ) (cells : List ℕ) (r : Result Counted Refusal) → is_record C rec ≡ true → n ≡ width_in rec → m ≡ count_in rec → cells ≡ exponents_in rec
+      → r ≡ dimension_answer W C M n m cells own_cells own_coefficients own_coefficients own_words → r ≡ record_answer W C M rec
   record_dimension n m cells r t en em ec e =
       e
-      ∙ ap (λ (x : ℕ). told_of (dimension_answer W C M x m cells own_cells own_coefficients own_coefficients own_words)) en
-      ∙ ap (λ (x : ℕ). told_of (dimension_answer W C M (width_in rec) x cells own_cells own_coefficients own_coefficients own_words)) em
-      ∙ ap (λ (x : List ℕ). told_of (dimension_answer W C M (width_in rec) (count_in rec) x own_cells own_coefficients own_coefficients own_words)) ec
-      ∙ ap (λ (o : Option Refusal). told_of (dimension_is o (width_in rec) (list_in rec))) (sym (a_record C rec (record_checks W C M rec) t))
+      ∙ ap (λ (x : ℕ). dimension_answer W C M x m cells own_cells own_coefficients own_coefficients own_words) en
+      ∙ ap (λ (x : ℕ). dimension_answer W C M (width_in rec) x cells own_cells own_coefficients own_coefficients own_words) em
+      ∙ ap (λ (x : List ℕ). dimension_answer W C M (width_in rec) (count_in rec) x own_cells own_coefficients own_coefficients own_words) ec
+      ∙ ap (λ (o : Option Refusal). dimension_is o (width_in rec) (list_in rec)) (sym (a_record C rec (record_checks W C M rec) t))
 
-  pub no_record_dimension : (x : Refusal) (r : Told) → is_record C rec ≡ false → x ≡ Record → r ≡ refused_as x → r ≡ told_of (record_answer W C M rec)
+  pub no_record_dimension : (x : Refusal) (r : Result Counted Refusal) → is_record C rec ≡ false → x ≡ Record → r ≡ Err x → r ≡ record_answer W C M rec
   no_record_dimension x r t e f =
       f
-      ∙ ap refused_as e
-      ∙ ap (λ (o : Option Refusal). told_of (dimension_is o (width_in rec) (list_in rec))) (sym (no_record C rec (record_checks W C M rec) t))
+      ∙ ap (λ (y : Refusal). Err y) e
+      ∙ ap (λ (o : Option Refusal). dimension_is o (width_in rec) (list_in rec)) (sym (no_record C rec (record_checks W C M rec) t))

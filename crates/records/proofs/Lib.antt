@@ -1,4 +1,5 @@
 -- What the proofs of layer 3 share.
+pub mod PutBytes
 pub mod Cells
 pub mod Choosing
 pub mod Standing

@@ -1,18 +1,18 @@
 -- What a reader tests, as the tests that its private functions answer.
 --   stands_iff        a list stands exactly when each member is greater than the next and divided by no later one
---   stands_low, stands_divided, stands_next   the list from monomial i on, by that monomial
+--   all_stand         the same for the places from j on, each asked for itself
 --   header_short      bytes too short for a header have none that stands
 --   record_stands     bytes are a record exactly when their header and their list stand
 --   record_list_stands, record_header_falls, record_header   the header first, then the list
 --   header_few, header_total   what a header that stands says
 --   header_fits       as many exponents as it says have room in ample cells
---   copied            the cells that were copied
+--   copied_front   the cells that were copied
 -- Assumes nothing.
 use mathlib.Core.Path.{◌≡◌, refl, sym, ap, ap₂, ◌∙◌}
 use mathlib.Core.Logic.{◌↔◌, inl, inr}
 use mathlib.Core.Bool.{Bool, true, false, not, ◌&&◌}
 use mathlib.Core.List.{List, [], ◌∷◌, ◌++◌}
-use Prim.Native.Nat.{ℕ, ◌+◌, ◌*◌, ◌-◌, ◌≤◌, ◌<◌, Ordering}
+use Prim.Native.Nat.{ℕ, zero, suc, ◌+◌, ◌*◌, ◌-◌, ◌≤◌, ◌<◌, Ordering}
 use native.Mathlib.Omega.{arith}
 use lib.Dec.{leb, eqb}
 use lib.ListN.{length, get_or, take, drop, length-drop}
@@ -26,7 +26,8 @@ use Rattle.laws.proofs.Monomial.{and_left, and_right, bool_ext}
 use Rattle.laws.proofs.Minimal.{Chain, Undivided}
 use Rattle.laws.proofs.Reading.{byte_at, cells_in_length, record_tests}
 use Rattle.records.specs.Rows.{row, is_greater, above, stands, header_stands, Ample}
-use Rattle.records.proofs.Cells.{listed_next, area}
+use Rattle.std.specs.List.{list_all, range_with_len}
+use Rattle.records.proofs.Cells.{listed_next, listed_end, area}
 
 greater_is : (o : Ordering) → is_greater o ≡ true → o ≡ Ordering.gt
 greater_is Ordering.lt h = cc
@@ -51,21 +52,20 @@ chain_stands (a ∷ b ∷ L) c u = ap₂ ◌&&◌ (ap is_greater c.0) (ap₂ ◌
 pub stands_iff : (L : List (List ℕ)) → (stands L ≡ true) ↔ (Chain L × Undivided L)
 stands_iff L = (stands_chain L, λ h. chain_stands L h.0 h.1)
 
-module _ (n m i : ℕ) (cells : List ℕ) (h : i < m) where
-  from_here : stands (drop i (listed n m cells)) ≡ (above (row n cells i) (drop (i + 1) (listed n m cells)) && (not (multiple (drop (i + 1) (listed n m cells)) (row n cells i)) && stands (drop (i + 1) (listed n m cells))))
-  from_here = ap stands (listed_next n m i cells h)
+and_assoc : (a b c : Bool) → ((a && b) && c) ≡ (a && (b && c))
+and_assoc true b c = refl
+and_assoc false b c = refl
 
-  -- monomial i is not above the next
-  pub stands_low : above (row n cells i) (drop (i + 1) (listed n m cells)) ≡ false → stands (drop i (listed n m cells)) ≡ false
-  stands_low e = from_here ∙ rw e
-
-  -- a later one divides it
-  pub stands_divided : above (row n cells i) (drop (i + 1) (listed n m cells)) ≡ true → multiple (drop (i + 1) (listed n m cells)) (row n cells i) ≡ true → stands (drop i (listed n m cells)) ≡ false
-  stands_divided e f = from_here ∙ rw (e, f)
-
-  -- neither: those after it decide
-  pub stands_next : above (row n cells i) (drop (i + 1) (listed n m cells)) ≡ true → multiple (drop (i + 1) (listed n m cells)) (row n cells i) ≡ false → stands (drop i (listed n m cells)) ≡ stands (drop (i + 1) (listed n m cells))
-  stands_next e f = from_here ∙ rw (e, f)
+-- the places from j on, each asked for itself
+pub all_stand : (n m : ℕ) (cells : List ℕ) (k j : ℕ) → j + k ≡ m
+    → list_all (λ i. above (row n cells i) (drop (i + 1) (listed n m cells)) && not (multiple (drop (i + 1) (listed n m cells)) (row n cells i))) (range_with_len j k) ≡ stands (drop j (listed n m cells))
+all_stand n m cells zero j e = sym (ap stands (listed_end n m j cells (omega arith)))
+all_stand n m cells (suc k) j e =
+    let a = above (row n cells j) (drop (j + 1) (listed n m cells)) in
+    let b = not (multiple (drop (j + 1) (listed n m cells)) (row n cells j)) in
+    ap (λ (t : Bool). (a && b) && t) (all_stand n m cells k (j + 1) (omega arith))
+    ∙ and_assoc a b (stands (drop (j + 1) (listed n m cells)))
+    ∙ sym (ap stands (listed_next n m j cells (omega arith)))
 
 and_false : (b : Bool) → (b && false) ≡ false
 and_false true = refl
@@ -144,7 +144,5 @@ header_fits rec cells b (inl l) h =
 header_fits rec cells b (inr l) h = omega (arith, header_total 60 rec h, l)
 
 -- the cells that were copied, whatever stands behind them
-pub copied : (count : ℕ) (bytes d cells : List ℕ) → length bytes ≡ 7 + 2 * count → cells ≡ exponents_in bytes ++ d → take (count - 0) (drop 0 cells) ≡ exponents_in bytes
-copied count bytes d cells h e =
-    let z : count - 0 ≡ count = omega arith in
-    rw (z, e) (take_at (exponents_in bytes) d count (cells_in_length (drop 7 bytes) ∙ omega (arith, length-drop 7 bytes)))
+pub copied_front : (count : ℕ) (bytes d cells : List ℕ) → length bytes ≡ 7 + 2 * count → cells ≡ exponents_in bytes ++ d → take count cells ≡ exponents_in bytes
+copied_front count bytes d cells h e = rw e (take_at (exponents_in bytes) d count (cells_in_length (drop 7 bytes) ∙ omega (arith, length-drop 7 bytes)))

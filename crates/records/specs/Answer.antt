@@ -5,10 +5,10 @@
 -- Assumes nothing.
 use Rattle.std.specs.Prelude.{◌≡◌, refl, cond, List, [], ◌∷◌, ◌++◌, ℕ, ltb, eqb, length, drop, replicate}
 use Rattle.laws.specs.Record.{answer_record}
-use Rattle.monomials.specs.Refusal.{Check, refusal, after}
+use Rattle.monomials.specs.Refusal.{Check, refusal, after, answer}
 use Rattle.monomials.specs.declared.refusal.Refusal.TheVariants.{Output}
-use Rattle.records.specs.Ideal.{check_answer}
-use Rattle.records.specs.declared.ideal.CheckAnswer.{CheckAnswer}
+use Rattle.std.specs.Prelude.{Result, ⊤}
+use Rattle.monomials.specs.declared.refusal.Refusal.{Refusal}
 
 abbrev pub answer_checks : ℕ → List ℕ → List Check
 answer_checks S out = (ltb (length out) S, Output) ∷ []
@@ -16,8 +16,8 @@ answer_checks S out = (ltb (length out) S, Output) ∷ []
 abbrev pub answer_of : ℕ → ℕ → ℕ → List ℕ
 answer_of s x t = cond (eqb s 0) (answer_record 0 x t) (answer_record s 0 0)
 
-abbrev pub answer_outcome : ℕ → List ℕ → CheckAnswer
-answer_outcome S out = check_answer (refusal (answer_checks S out))
+abbrev pub answer_outcome : ℕ → List ℕ → Result ⊤ Refusal
+answer_outcome S out = answer (refusal (answer_checks S out)) tt
 
 abbrev pub answer_bytes : ℕ → ℕ → ℕ → ℕ → List ℕ → List ℕ
 answer_bytes S s x t out = after (refusal (answer_checks S out)) (answer_of s x t ++ drop S out) out

@@ -12,12 +12,12 @@ use Rattle.std.specs.Prelude.{◌≡◌, refl, List, [], ◌∷◌, ◌++◌, �
 use Rattle.std.proofs.Math.Option.{Option, none, some}
 use Rattle.laws.specs.Dimension.{dimension, top_degree}
 use Rattle.laws.specs.Record.{ideal_record, answer_record, width_in, count_in, exponents_in, list_in}
-use Rattle.monomials.specs.Refusal.{Check, refusal, number}
+use Rattle.monomials.specs.Refusal.{Check, refusal, number, answer}
 use Rattle.monomials.specs.declared.refusal.Refusal.{Refusal}
 use Rattle.numbers.specs.Dimension.{dimension_checks}
 use Rattle.records.specs.Answer.{answer_checks, answer_bytes}
-use Rattle.records.specs.Ideal.{check_answer, not_record}
-use Rattle.records.specs.declared.ideal.CheckAnswer.{CheckAnswer}
+use Rattle.records.specs.Ideal.{not_record}
+use Rattle.std.specs.Prelude.{Result, ⊤}
 
 abbrev pub own_cells : List ℕ
 own_cells = replicate 16384 0
@@ -38,8 +38,8 @@ abbrev pub status : Option Refusal → ℕ
 status none = 0
 status (some r) = number r
 
-abbrev pub host_answer : ℕ → ℕ → ℕ → ℕ → List ℕ → List ℕ → CheckAnswer
-host_answer W C M S rec out = check_answer (refusal (host_checks W C M S rec out))
+abbrev pub host_answer : ℕ → ℕ → ℕ → ℕ → List ℕ → List ℕ → Result ⊤ Refusal
+host_answer W C M S rec out = answer (refusal (host_checks W C M S rec out)) tt
 
 abbrev pub host_number : ℕ → ℕ → ℕ → ℕ → List ℕ → List ℕ → ℕ
 host_number W C M S rec out = status (refusal (host_checks W C M S rec out))

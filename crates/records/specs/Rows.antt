@@ -1,9 +1,9 @@
 -- What the private functions over monomials in cells do. No public contract cites this file.
 --   row n cells i     == the monomial of width n at place i of the cells
 --   rows_at n cells ps == the monomials at the places ps
+--   members l, member l i, members_at l ps == the monomials of the code's list l: all, that at place i, those at the places ps
 --   Below s ps        == each of the places ps is below s
 --   is_less, is_equal, is_greater o == what the comparison o says
---   less_is o          == the code's order o says less
 --   above a L         == a is greater than the first of L by DegRevLex, if L has one
 --   stands L          == each member of L is greater than the next, and divided by no later one
 --   header_stands C bytes == version, length field, count and size of bytes are those of a record of at most C monomials
@@ -12,12 +12,12 @@
 --   same_at a K        == a is the first of K
 -- Assumes nothing.
 use Rattle.std.specs.Prelude.{Bool, true, false, not, ◌&&◌, cond, List, [], ◌∷◌, map, ◌⊎◌, leb, eqb, length, get_or, take, drop}
+use Rattle.std.specs.List.{All}
 use Prim.Native.Nat.{ℕ, suc, ◌+◌, ◌*◌, ◌-◌, ◌≤◌, ◌<◌, Ordering}
-use Rattle.laws.specs.Ideal.{multiple}
+use Rattle.laws.specs.Ideal.{listed, multiple}
 use Rattle.laws.specs.Order.{degrevlex}
 use Rattle.laws.specs.Record.{value, width_in, count_in}
-use Rattle.monomials.specs.declared.monomial.Order.{Order}
-use Rattle.monomials.specs.declared.monomial.Order.TheVariants.{Less, Equal, Greater}
+use Rattle.records.specs.declared.list.MonomialList.{MonomialList}
 
 abbrev pub row : ℕ → List ℕ → ℕ → List ℕ
 row n cells i = take n (drop (i * n) cells)
@@ -25,9 +25,17 @@ row n cells i = take n (drop (i * n) cells)
 abbrev pub rows_at : ℕ → List ℕ → List ℕ → List (List ℕ)
 rows_at n cells ps = map (row n cells) ps
 
+abbrev pub members : MonomialList → List (List ℕ)
+members l = listed l.width l.count l.cells.now
+
+abbrev pub member : MonomialList → ℕ → List ℕ
+member l i = row l.width l.cells.now i
+
+abbrev pub members_at : MonomialList → List ℕ → List (List ℕ)
+members_at l ps = rows_at l.width l.cells.now ps
+
 abbrev pub Below : ℕ → List ℕ → Type 0
-Below s [] = Unit {0}
-Below s (p ∷ ps) = (p < s) × Below s ps
+Below s ps = All (λ p. p < s) ps
 
 abbrev pub is_less : Ordering → Bool
 is_less Ordering.lt = true
@@ -43,11 +51,6 @@ abbrev pub is_greater : Ordering → Bool
 is_greater Ordering.lt = false
 is_greater Ordering.eq = false
 is_greater Ordering.gt = true
-
-abbrev pub less_is : Order → Bool
-less_is Less = true
-less_is Equal = false
-less_is Greater = false
 
 abbrev pub above : List ℕ → List (List ℕ) → Bool
 above a [] = true

@@ -1,105 +1,101 @@
 // The minimal monomials of a list, each once, DegRevLex greatest first, as places of the list.
-ghost use Rattle.std.specs.Prelude.{◌≡◌, ◌∷◌, ◌++◌, ◌+◌, ◌*◌, ◌≤◌, ◌<◌, length, take, drop};
-ghost use Rattle.laws.specs.Ideal.{listed};
+ghost use Rattle.std.specs.Prelude.{◌≡◌, [], ◌∷◌, ◌++◌, ◌+◌, ◌≤◌, ◌<◌, List, ℕ, length, take, drop};
 ghost use Rattle.laws.specs.Minimal.{insert, minimal};
-ghost use Rattle.records.specs.Rows.{row, rows_at, seat_of, same_at, less_is, Below};
+ghost use Rattle.monomials.specs.declared.refusal.TheConstants.{MAX_COUNT};
+ghost use Rattle.records.specs.Rows.{member, members, members_at, seat_of, same_at, Below};
 
-use crate::rows::{compare_rows, is_minimal};
-use monomials::monomial::Order;
-use monomials::refusal::MAX_WIDTH;
+use crate::list::MonomialList;
+use monomials::refusal::MAX_COUNT;
+use std::cmp::Ordering;
+use std::marker::Model;
 
-// Writes the places of the minimal monomials, and tells how many they are.
-pub(crate) fn choose(n: usize, s: usize, cells: &[u16], places: &mut [usize]) -> usize
-    requires n_le_max_width { n ≤ MAX_WIDTH }
-    requires cells_len { (length cells.now ≡ s * n) × (s ≤ length places.old) }
-    ensures { (rows_at n cells.now (take result places.new) ≡ minimal (listed n s cells.now)) × (result ≤ s) × Below s (take result places.new) }
-{
-    let mut m: usize = 0;
-    let mut i = s;
-    while 0 < i {
-        i -= 1;
-        if is_minimal(n, s, cells, i) {
-            m = insert_row(n, s, cells, places, m, i);
+// Some places of a list, in memory of a fixed size.
+#[derive(Drop)]
+pub(crate) struct Places {
+    places: [usize; MAX_COUNT],
+    count: usize,
+}
+
+impl Model for Places {
+    ghost Value = { List ℕ };
+
+    ghost view = { λ p. take p.count p.places };
+
+    ghost invariant = { λ p. p.count ≤ MAX_COUNT };
+}
+
+impl Places {
+    fn new() -> Self
+        ensures { result ≡ [] }
+    {
+        Places {
+            places: [0; MAX_COUNT],
+            count: 0,
         }
     }
-    m
-}
 
-// Puts place i among the first m places, which fall, unless its monomial is there; tells how many there are then.
-fn insert_row(n: usize, s: usize, cells: &[u16], places: &mut [usize], m: usize, i: usize) -> usize
-    requires n_le_max_width { n ≤ MAX_WIDTH }
-    requires cells_len { (length cells.now ≡ s * n) × (m < length places.old) × (i < s) × Below s (take m places.old) }
-    ensures { (rows_at n cells.now (take result places.new) ≡ insert (row n cells.now i) (rows_at n cells.now (take m places.old))) × (result ≤ m + 1) × Below s (take result places.new) }
-{
-    let p = seat(n, s, cells, places, m, i);
-    if is_there(n, s, cells, places, m, i, p) {
-        return m;
+    pub(crate) fn as_slice(&self) -> &[usize]
+        ensures { result.now ≡ self.now }
+    {
+        &self.places[..self.count]
     }
-    insert_place(places, m, p, i);
-    m + 1
+
+    // Puts x at place p, and what stood there and after it one place further.
+    fn insert(&mut self, p: usize, x: usize)
+        requires { (p ≤ length self.old) × (length self.old < MAX_COUNT) }
+        ensures { self.new ≡ take p self.old ++ x ∷ drop p self.old }
+    {
+        self.places.copy_within(p..self.count, p + 1);
+        self.places[p] = x;
+        self.count += 1;
+    }
 }
 
-// How many of the first m places have a monomial greater than that of i, before the first that has not.
-fn seat(n: usize, s: usize, cells: &[u16], places: &[usize], m: usize, i: usize) -> usize
-    requires n_le_max_width { n ≤ MAX_WIDTH }
-    requires cells_len { (length cells.now ≡ s * n) × (m ≤ length places.now) × (i < s) × Below s (take m places.now) }
-    ensures { (result ≡ seat_of (row n cells.now i) (rows_at n cells.now (take m places.now))) × (result ≤ m) }
+// The places of the minimal monomials.
+pub(crate) fn choose(list: &MonomialList) -> Places
+    ensures rows { members_at list.now result ≡ minimal (members list.now) }
+    ensures few { length result ≤ list.now.count }
+    ensures below { Below list.now.count result }
 {
-    let mut p: usize = 0;
-    while p < m {
-        let order = compare_rows(n, cells, i, places[p]);
-        if !is_less(order) {
-            return p;
+    let mut places = Places::new();
+    for i in (0..list.count).rev() {
+        if list.is_minimal(i) {
+            insert_row(list, &mut places, i);
         }
-        p += 1;
     }
-    p
+    places
 }
 
-// Whether place p of the first m has the monomial of i.
-fn is_there(
-    n: usize,
-    s: usize,
-    cells: &[u16],
-    places: &[usize],
-    m: usize,
-    i: usize,
-    p: usize,
-) -> bool
-    requires n_le_max_width { n ≤ MAX_WIDTH }
-    requires cells_len { (length cells.now ≡ s * n) × (m ≤ length places.now) × (i < s) × Below s (take m places.now) }
-    ensures { result ≡ same_at (row n cells.now i) (drop p (rows_at n cells.now (take m places.now))) }
+// Puts i among the places, whose monomials fall, unless its monomial is there.
+fn insert_row(list: &MonomialList, places: &mut Places, i: usize)
+    requires there { (i < list.now.count) × (length places.old < MAX_COUNT) }
+    requires below { Below list.now.count places.old }
+    ensures rows { members_at list.now places.new ≡ insert (member list.now i) (members_at list.now places.old) }
+    ensures few { length places.new ≤ length places.old + 1 }
+    ensures below { Below list.now.count places.new }
 {
-    if m <= p {
-        return false;
-    }
-    let order = compare_rows(n, cells, i, places[p]);
-    match order {
-        Order::Less => false,
-        Order::Equal => true,
-        Order::Greater => false,
+    let p = seat(list, places.as_slice(), i);
+    if !is_there(list, places.as_slice(), i, p) {
+        places.insert(p, i);
     }
 }
 
-fn is_less(order: Order) -> bool
-    ensures { result ≡ less_is order }
+// How many of the places have a monomial greater than that of i, before the first that has not.
+fn seat(list: &MonomialList, places: &[usize], i: usize) -> usize
+    requires { (i < list.now.count) × Below list.now.count places.now }
+    ensures seat { result ≡ seat_of (member list.now i) (members_at list.now places.now) }
+    ensures within { result ≤ length places.now }
 {
-    match order {
-        Order::Less => true,
-        Order::Equal => false,
-        Order::Greater => false,
-    }
+    places
+        .iter()
+        .position(|p| list.compare(i, *p) != Ordering::Less)
+        .unwrap_or(places.len())
 }
 
-// Puts x at place p, and what stood there and after it, up to place m, one place further.
-fn insert_place(places: &mut [usize], m: usize, p: usize, x: usize)
-    requires { (p ≤ m) × (m < length places.old) }
-    ensures { take (m + 1) places.new ≡ take p places.old ++ x ∷ drop p (take m places.old) }
+// Whether place number p has the monomial of i.
+fn is_there(list: &MonomialList, places: &[usize], i: usize, p: usize) -> bool
+    requires { (i < list.now.count) × Below list.now.count places.now }
+    ensures { result ≡ same_at (member list.now i) (drop p (members_at list.now places.now)) }
 {
-    let mut q = m;
-    while p < q {
-        places[q] = places[q - 1];
-        q -= 1;
-    }
-    places[p] = x;
+    p < places.len() && list.compare(i, places[p]) == Ordering::Equal
 }

@@ -3,12 +3,12 @@
 ghost use Rattle.std.specs.Prelude.{true, ◌≡◌, [], ◌∷◌, ◌++◌, ◌+◌, ◌*◌, ◌≤◌, ◌<◌, length, take, drop};
 ghost use Rattle.std.proofs.lemmas.List.Edits.{sets};
 ghost use Rattle.laws.specs.Record.{big_endian, exponent_bytes, is_record, width_in, count_in, exponents_in};
-ghost use Rattle.records.specs.Rows.{rows_at, Below, header_stands, Ample};
+ghost use Rattle.records.specs.Rows.{members_at, Below, header_stands, Ample};
 ghost use Rattle.records.specs.Ideal.{write_answer, write_bytes, place_answer, place_part, copy_answer, copy_cells};
 
-use crate::bytes::{copy_cells, field_of, put_cells, put_number};
+use crate::bytes::{copy_cells, field_of, put_bytes, put_cells};
 use crate::choice::choose;
-use crate::rows::rows_stand;
+use crate::list::MonomialList;
 use monomials::refusal::{MAX_COUNT, MAX_WIDTH, Refusal};
 
 // The exponents of a record with the greatest width and count.
@@ -23,93 +23,56 @@ pub(crate) const FEW_CELLS: usize = 256;
 // The bytes of a record with so many exponents.
 pub(crate) const SHORT_RECORD: usize = 7 + 2 * FEW_CELLS;
 
-// A size in bytes, or why there is none.
-#[derive(Clone, Copy)]
-pub enum SizeOutcome {
-    Value(usize),
-    Refused(Refusal),
-}
-
-#[derive(Clone, Copy)]
-pub struct SizeAnswer {
-    pub outcome: SizeOutcome,
-}
-
-// Nothing is wrong, or what is.
-#[derive(Clone, Copy)]
-pub enum CheckOutcome {
-    Done,
-    Refused(Refusal),
-}
-
-#[derive(Clone, Copy)]
-pub struct CheckAnswer {
-    pub outcome: CheckOutcome,
-}
-
-// The width and the count of a list.
+// The width and the count of a list: bytes 5 and 6 of a record, which are read where one of them is needed.
 #[derive(Clone, Copy)]
 pub struct Shape {
     pub n: usize,
     pub m: usize,
 }
 
-// What was copied, or why nothing was.
-#[derive(Clone, Copy)]
-pub enum CopyOutcome {
-    Value(Shape),
-    Refused(Refusal),
-}
-
-#[derive(Clone, Copy)]
-pub struct CopyAnswer {
-    pub outcome: CopyOutcome,
-}
-
 // Writes the record of the list of s monomials of width n that lies in the cells, and tells its size; past it the output is kept.
-pub fn write_record(n: usize, s: usize, cells: &[u16], out: &mut [u8]) -> SizeAnswer
+pub fn write_record(n: usize, s: usize, cells: &[u16], out: &mut [u8]) -> Result<usize, Refusal>
     ensures value { result ≡ write_answer MAX_WIDTH MAX_COUNT n s cells.now out.old }
     ensures out_after { out.new ≡ write_bytes MAX_WIDTH MAX_COUNT n s cells.now out.old }
 {
+    // The checks of the calls of `numbers` on a list, none of which makes them alone.
     if MAX_WIDTH < n {
-        return size_refused(Refusal::Width);
+        return Err(Refusal::Width);
     }
     if MAX_COUNT < s {
-        return size_refused(Refusal::Count);
+        return Err(Refusal::Count);
     }
     if cells.len() != s * n {
-        return size_refused(Refusal::Cells);
+        return Err(Refusal::Cells);
     }
-    let mut places = [0usize; MAX_COUNT];
-    let m = choose(n, s, cells, &mut places);
+    let list = MonomialList {
+        width: n,
+        count: s,
+        cells,
+    };
+    let places = choose(&list);
+    let chosen = places.as_slice();
+    let m = chosen.len();
     let size = 7 + 2 * (m * n);
     if out.len() < size {
-        return size_refused(Refusal::Output);
+        return Err(Refusal::Output);
     }
     put_header(out, n, m);
-    put_rows(out, n, s, cells, &places, m);
-    SizeAnswer {
-        outcome: SizeOutcome::Value(size),
-    }
+    put_rows(out, &list, chosen);
+    Ok(size)
 }
 
 // Whether the bytes are a record that has a monomial at place k.
-pub fn check_place(rec: &[u8], k: usize) -> CheckAnswer
+pub fn check_place(rec: &[u8], k: usize) -> Result<(), Refusal>
     ensures { result ≡ place_answer MAX_COUNT rec.now k }
 {
     if !is_record(rec) {
-        return CheckAnswer {
-            outcome: CheckOutcome::Refused(Refusal::Record),
-        };
+        return Err(Refusal::Record);
     }
-    if wide(rec[6]) <= k {
-        return CheckAnswer {
-            outcome: CheckOutcome::Refused(Refusal::Place),
-        };
+    if usize::from(rec[6]) <= k {
+        return Err(Refusal::Place);
     }
-    CheckAnswer {
-        outcome: CheckOutcome::Done,
-    }
+    Ok(())
 }
 
 // The exponent bytes of the monomial at place k, as a part of the record; the empty part where `check_place` refuses.
@@ -119,70 +82,50 @@ pub fn place(rec: &[u8], k: usize) -> &[u8]
     if !is_record(rec) {
         return &rec[0..0];
     }
-    let m = wide(rec[6]);
+    let m = usize::from(rec[6]);
     if m <= k {
         return &rec[0..0];
     }
-    let n = wide(rec[5]);
+    let n = usize::from(rec[5]);
     let from = 7 + 2 * n * k;
     let to = from + 2 * n;
     &rec[from..to]
 }
 
 // Copies all exponents of a record into the first cells, and tells its width and its count; past them the cells are kept.
-pub fn copy_record(rec: &[u8], cells: &mut [u16]) -> CopyAnswer
+pub fn copy_record(rec: &[u8], cells: &mut [u16]) -> Result<Shape, Refusal>
     ensures value { result ≡ copy_answer MAX_COUNT rec.now cells.old }
     ensures cells_after { cells.new ≡ copy_cells MAX_COUNT rec.now cells.old }
 {
     if !is_record(rec) {
-        return copy_refused(Refusal::Record);
+        return Err(Refusal::Record);
     }
-    let n = wide(rec[5]);
-    let m = wide(rec[6]);
+    let n = usize::from(rec[5]);
+    let m = usize::from(rec[6]);
     let count = m * n;
     if cells.len() < count {
-        return copy_refused(Refusal::Output);
+        return Err(Refusal::Output);
     }
     copy_cells(rec, count, cells);
-    CopyAnswer {
-        outcome: CopyOutcome::Value(Shape { n, m }),
-    }
+    Ok(Shape { n, m })
 }
 
 // The same into cells that are enough, where the exponents are checked too: after a refusal the cells may be changed.
-pub(crate) fn read_record(rec: &[u8], cells: &mut [u16]) -> CopyAnswer
+pub(crate) fn read_record(rec: &[u8], cells: &mut [u16]) -> Result<Shape, Refusal>
     requires { Ample rec.now cells.old }
     ensures value { result ≡ copy_answer MAX_COUNT rec.now cells.old }
     ensures cells_after { is_record MAX_COUNT rec.now ≡ true → cells.new ≡ copy_cells MAX_COUNT rec.now cells.old }
 {
     if !header_stands(rec) {
-        return copy_refused(Refusal::Record);
+        return Err(Refusal::Record);
     }
     if !list_stands(rec, cells) {
-        return copy_refused(Refusal::Record);
+        return Err(Refusal::Record);
     }
-    CopyAnswer {
-        outcome: CopyOutcome::Value(Shape {
-            n: wide(rec[5]),
-            m: wide(rec[6]),
-        }),
-    }
-}
-
-fn size_refused(refusal: Refusal) -> SizeAnswer
-    ensures { result ≡ record { outcome = SizeOutcome.Refused refusal } }
-{
-    SizeAnswer {
-        outcome: SizeOutcome::Refused(refusal),
-    }
-}
-
-fn copy_refused(refusal: Refusal) -> CopyAnswer
-    ensures { result ≡ record { outcome = CopyOutcome.Refused refusal } }
-{
-    CopyAnswer {
-        outcome: CopyOutcome::Refused(refusal),
-    }
+    Ok(Shape {
+        n: usize::from(rec[5]),
+        m: usize::from(rec[6]),
+    })
 }
 
 // Whether the bytes are a record of at most MAX_COUNT monomials.
@@ -206,11 +149,16 @@ fn list_stands(rec: &[u8], cells: &mut [u16]) -> bool
     ensures value { result ≡ is_record 60 rec.now }
     ensures cells_after { cells.new ≡ exponents_in rec.now ++ drop (count_in rec.now * width_in rec.now) cells.old }
 {
-    let n = wide(rec[5]);
-    let m = wide(rec[6]);
+    let n = usize::from(rec[5]);
+    let m = usize::from(rec[6]);
     let count = m * n;
     copy_cells(rec, count, cells);
-    rows_stand(n, m, &cells[0..count])
+    let list = MonomialList {
+        width: n,
+        count: m,
+        cells: &cells[..count],
+    };
+    list.stand()
 }
 
 // Whether version, length field, count and size are right.
@@ -226,11 +174,11 @@ fn header_stands(rec: &[u8]) -> bool
     if field_of(rec) != rec.len() - 5 {
         return false;
     }
-    let m = wide(rec[6]);
+    let m = usize::from(rec[6]);
     if MAX_COUNT < m {
         return false;
     }
-    rec.len() == 7 + 2 * (m * wide(rec[5]))
+    rec.len() == 7 + 2 * (m * usize::from(rec[5]))
 }
 
 // Writes what stands before the exponents of m monomials of width n.
@@ -240,30 +188,18 @@ fn put_header(out: &mut [u8], n: usize, m: usize)
     ensures { out.new ≡ sets out.old 0 (1 ∷ big_endian 4 (2 + 2 * (m * n)) ++ n ∷ m ∷ []) }
 {
     out[0] = 1;
-    put_number(out, 1, 4, (2 + 2 * (m * n)) as u64);
+    put_bytes(out, 1, &((2 + 2 * (m * n)) as u32).to_be_bytes());
     out[5] = n as u8;
     out[6] = m as u8;
 }
 
-// Writes the exponents of the monomials at the first m places, one after another, behind the header.
-fn put_rows(out: &mut [u8], n: usize, s: usize, cells: &[u16], places: &[usize], m: usize)
-    requires cells_len { (length cells.now ≡ s * n) × (m ≤ length places.now) × Below s (take m places.now) }
-    requires n_in_bounds { 7 + 2 * (m * n) ≤ length out.old }
-    ensures { out.new ≡ sets out.old 7 (exponent_bytes (rows_at n cells.now (take m places.now))) }
+// Writes the exponents of the monomials at the places, one after another, behind the header.
+fn put_rows(out: &mut [u8], list: &MonomialList, places: &[usize])
+    requires below { Below list.now.count places.now }
+    requires in_bounds { 7 + 2 * (length places.now * list.now.width) ≤ length out.old }
+    ensures { out.new ≡ sets out.old 7 (exponent_bytes (members_at list.now places.now)) }
 {
-    let mut k: usize = 0;
-    let mut at: usize = 7;
-    while k < m {
-        let from = places[k] * n;
-        let to = from + n;
-        put_cells(out, at, &cells[from..to]);
-        at += 2 * n;
-        k += 1;
+    for (k, place) in places.iter().enumerate() {
+        put_cells(out, 7 + 2 * (k * list.width), list.row(*place));
     }
-}
-
-fn wide(x: u8) -> usize
-    ensures { (result ≡ x) × (result < 256) }
-{
-    x as usize
 }

@@ -1,11 +1,20 @@
-// The dimension of one case's list, held against the number, the values and the rooms that the case gives.
-use monomials::refusal::number_of;
-use numbers::dimension::{DimensionAnswer, DimensionOutcome, quotient_dimension};
+// The dimension of one case's list, held against the number, the values and the rooms that the case gives. A case that is larger than the slices
+// here is wrong.
+use monomials::refusal::Refusal;
+use numbers::dimension::{Dimension, quotient_dimension};
 use vectors::asked::{cells_asked, coefficients_asked};
-use vectors::rooms::{
-    are_cells, are_coefficients, are_words, put_cells, put_coefficients, put_words, wiped,
-};
-use vectors::told::{Told, done, is_answer, refused};
+use vectors::reader::Reader;
+use vectors::rooms::{compare, wiped};
+use vectors::told::{done, told_by};
+
+// No list has more cells, and no case lends more.
+const CELLS: usize = 15300;
+
+const CELLS_LENT: usize = 1101600;
+
+const COEFFICIENTS_LENT: usize = 65540;
+
+const WORDS_LENT: usize = 131076;
 
 // How much of each room is zero after a call; the two coefficient rooms are alike.
 #[derive(Clone, Copy)]
@@ -15,88 +24,89 @@ struct Left {
     words: u64,
 }
 
-// Whether the call, on the rooms as lent, does what the case says at `at`.
-pub fn is_call_right(
-    n: usize,
-    s: usize,
-    cells: &[u16],
-    room: &mut [u16],
-    first: &mut [i64],
-    second: &mut [i64],
-    sums: &mut [u64],
-    text: &[u8],
-    at: usize,
-) -> bool {
-    prepare(room, first, second, sums, text);
-    is_prepared_right(n, s, cells, room, first, second, sums, text, at)
-}
-
-fn is_prepared_right(
-    n: usize,
-    s: usize,
-    cells: &[u16],
-    room: &mut [u16],
-    first: &mut [i64],
-    second: &mut [i64],
-    sums: &mut [u64],
-    text: &[u8],
-    at: usize,
-) -> bool {
-    let told = told_by(quotient_dimension(n, s, cells, room, first, second, sums));
-    let left = left_by(told, n, s, cells);
-    is_answer(text, at, told) && are_left(left, room, first, second, sums, text)
-}
-
-fn prepare(room: &mut [u16], first: &mut [i64], second: &mut [i64], sums: &mut [u64], text: &[u8]) {
-    put_cells(text, wiped(0), room);
-    put_coefficients(text, wiped(0), first);
-    put_coefficients(text, wiped(0), second);
-    put_words(text, wiped(0), sums);
-}
-
-fn told_by(answer: DimensionAnswer) -> Told {
-    let outcome = answer.outcome;
-    match outcome {
-        DimensionOutcome::Value(x) => {
-            let w = x.dimension;
-            done(4, w.low, w.high, x.top)
-        }
-        DimensionOutcome::Refused(r) => refused(number_of(r)),
+// Whether the call with this code does what the case says. The codes are those of the vectors' files, and stand here alone: so no enum of them.
+pub fn is_right(code: u64, mut case: Reader) -> bool {
+    if code != 24 {
+        return false;
     }
+    let n = case.size();
+    let s = case.size();
+    let mut cells = [0u16; CELLS];
+    let m = case.fill(&mut cells);
+    compared(n, s, &cells[..m], case).unwrap_or(false)
+}
+
+// Whether the call, on the rooms that the case lends, does what the case says; none where these are larger than there is here. A case may give
+// a list that no type of a list holds, so its parts go loose.
+fn compared(n: usize, s: usize, cells: &[u16], case: Reader) -> Option<bool> {
+    let mut room = [0u16; CELLS_LENT];
+    let mut first = [0i64; COEFFICIENTS_LENT];
+    let mut second = [0i64; COEFFICIENTS_LENT];
+    let mut sums = [0u64; WORDS_LENT];
+    compared_on(
+        n,
+        s,
+        cells,
+        case,
+        &mut room,
+        &mut first,
+        &mut second,
+        &mut sums,
+    )
+}
+
+// The same on rooms for any case. They come as arrays: where they are made, the check would count their elements.
+fn compared_on(
+    n: usize,
+    s: usize,
+    cells: &[u16],
+    mut case: Reader,
+    room: &mut [u16; CELLS_LENT],
+    first: &mut [i64; COEFFICIENTS_LENT],
+    second: &mut [i64; COEFFICIENTS_LENT],
+    sums: &mut [u64; WORDS_LENT],
+) -> Option<bool> {
+    let i = case.lend(room)?;
+    let j = case.lend(first)?;
+    let k = case.lend(second)?;
+    let l = case.lend(sums)?;
+    let answer = quotient_dimension(
+        n,
+        s,
+        cells,
+        &mut room[..i],
+        &mut first[..j],
+        &mut second[..k],
+        &mut sums[..l],
+    );
+    let left = left_by(answer, n, s, cells);
+    let a = compare(case.text, wiped(left.cells), &room[..i]);
+    let b = compare(case.text, wiped(left.coefficients), &first[..j]);
+    let c = compare(case.text, wiped(left.coefficients), &second[..k]);
+    let d = compare(case.text, wiped(left.words), &sums[..l]);
+    let told = told_by(answer, |x| {
+        done(4, x.dimension.low, x.dimension.high, x.top)
+    });
+    Some(a.right && b.right && c.right && d.right && case.is_answer(told))
 }
 
 // A refusal touches no room, nor does a list with a unit, which alone has the dimension 0, or a list without variables.
-fn left_by(told: Told, n: usize, s: usize, cells: &[u16]) -> Left {
-    if told.number != 0 || n == 0 || (told.first == 0 && told.second == 0) {
-        return Left {
+fn left_by(answer: Result<Dimension, Refusal>, n: usize, s: usize, cells: &[u16]) -> Left {
+    match answer {
+        Ok(x) if n != 0 && (x.dimension.low != 0 || x.dimension.high != 0) => Left {
+            cells: cells_asked(n, s, cells),
+            coefficients: coefficients_asked(n, cells),
+            words: words_asked(x.top),
+        },
+        _ => Left {
             cells: 0,
             coefficients: 0,
             words: 0,
-        };
-    }
-    Left {
-        cells: cells_asked(n, s, cells),
-        coefficients: coefficients_asked(n, cells),
-        words: words_asked(told.third),
+        },
     }
 }
 
 // 2·(top + 1); no top degree is above 65,536.
 fn words_asked(top: u64) -> u64 {
     if top <= 65536 { 2 * (top + 1) } else { 0 }
-}
-
-fn are_left(
-    left: Left,
-    room: &[u16],
-    first: &[i64],
-    second: &[i64],
-    sums: &[u64],
-    text: &[u8],
-) -> bool {
-    let a = are_cells(text, wiped(left.cells), room);
-    let b = are_coefficients(text, wiped(left.coefficients), first);
-    let c = are_coefficients(text, wiped(left.coefficients), second);
-    let d = are_words(text, wiped(left.words), sums);
-    a.right && b.right && c.right && d.right
 }

@@ -1,133 +1,132 @@
-// The call of one case, held against the number, the coefficients and the rooms that the case gives.
-use monomials::refusal::number_of;
-use numbers::numerator::{LengthAnswer, LengthOutcome, hilbert_numerator};
+// Each call on the arguments of one case, held against the number, the coefficients and the rooms that the case gives. A case that is larger than
+// the slices here is wrong.
+use monomials::refusal::Refusal;
+use numbers::numerator::hilbert_numerator;
 use numbers::update::add_generators;
 use vectors::asked::cells_asked;
-use vectors::rooms::{
-    Contents, are_cells, are_coefficients, at_most, list_at, put_cells, put_coefficients, wiped,
-};
-use vectors::told::{Told, done, output_at, refused};
+use vectors::reader::Reader;
+use vectors::rooms::{Contents, compare, list_at, wiped};
+use vectors::told::{Told, done, output_at, told_by};
 
-// Two lists of width n in cells: s0 monomials in the first `existing` cells, and s1 in those after them, up to `all`.
+// No list has more cells, no numerator more coefficients, and no case lends more.
+const CELLS: usize = 15300;
+
+const COEFFICIENTS: usize = 9002;
+
+const CELLS_LENT: usize = 1101600;
+
+const COEFFICIENTS_LENT: usize = 65540;
+
+// What the rooms hold after a call.
 #[derive(Clone, Copy)]
-pub struct Lists {
-    pub n: usize,
-    pub s0: usize,
-    pub s1: usize,
-    pub existing: usize,
-    pub all: usize,
+struct Held {
+    cells: Contents,
+    first: Contents,
+    second: Contents,
 }
 
-// Whether the call, on the rooms as lent, does what the case says at `at`. A numerator is of the first list alone.
-pub fn is_call_right(
-    code: u64,
-    lists: Lists,
-    coeffs: &[i64],
-    cells: &[u16],
-    room: &mut [u16],
-    first: &mut [i64],
-    second: &mut [i64],
-    text: &[u8],
-    at: usize,
-) -> bool {
-    prepare(room, first, second, text);
-    let told = told_by(call(code, lists, coeffs, cells, room, first, second));
-    let s = std::num::wrapping_add_usize(lists.s0, lists.s1);
-    let asked = cells_asked(lists.n, s, cells);
-    is_settled(told, asked, room, first, second, text, at)
-}
-
-fn prepare(room: &mut [u16], first: &mut [i64], second: &mut [i64], text: &[u8]) {
-    put_cells(text, wiped(0), room);
-    put_coefficients(text, wiped(0), first);
-    put_coefficients(text, wiped(0), second);
-}
-
-fn call(
-    code: u64,
-    lists: Lists,
-    coeffs: &[i64],
-    cells: &[u16],
-    room: &mut [u16],
-    first: &mut [i64],
-    second: &mut [i64],
-) -> LengthAnswer {
-    if code == 21 {
-        return hilbert_numerator(lists.n, lists.s0, cells, room, first, second);
-    }
-    let m = at_most(lists.existing as u64, cells.len());
-    add_generators(
-        lists.n,
-        coeffs,
-        lists.s0,
-        &cells[0..m],
-        lists.s1,
-        &cells[m..],
-        room,
-        first,
-        second,
-    )
-}
-
-fn told_by(answer: LengthAnswer) -> Told {
-    let outcome = answer.outcome;
-    match outcome {
-        LengthOutcome::Value(length) => done(2, length as u64, 0, 0),
-        LengthOutcome::Refused(r) => refused(number_of(r)),
+// Whether the call with this code does what the case says. The codes are those of the vectors' files, and stand here alone: so no enum of them.
+pub fn is_right(code: u64, case: Reader) -> bool {
+    match code {
+        21 => is_numerator_right(case),
+        22 => is_update_right(case),
+        _ => false,
     }
 }
 
-// Whether number, length and rooms are those of the case.
-fn is_settled(
-    told: Told,
+fn is_numerator_right(mut case: Reader) -> bool {
+    let n = case.size();
+    let s = case.size();
+    let mut cells = [0u16; CELLS];
+    let m = case.fill(&mut cells);
+    let list = &cells[..m];
+    let asked = cells_asked(n, s, list);
+    compared(case, asked, |room, first, second| {
+        hilbert_numerator(n, s, list, room, first, second)
+    })
+    .unwrap_or(false)
+}
+
+// The new list's cells stand behind those of the existing one.
+fn is_update_right(mut case: Reader) -> bool {
+    let n = case.size();
+    let mut coeffs = [0i64; COEFFICIENTS];
+    let g = case.fill(&mut coeffs);
+    let s = case.size();
+    let mut cells = [0u16; CELLS];
+    let m = case.fill(&mut cells);
+    let t = case.size();
+    let all = m + case.fill(&mut cells[m..]);
+    let coeffs = &coeffs[..g];
+    let existing = &cells[..m];
+    let added = &cells[m..all];
+    let asked = cells_asked(n, s.wrapping_add(t), &cells[..all]);
+    compared(case, asked, |room, first, second| {
+        add_generators(n, coeffs, s, existing, t, added, room, first, second)
+    })
+    .unwrap_or(false)
+}
+
+// Whether the call, on the rooms that the case lends, does what the case says; none where these are larger than there is here, or the number or
+// the length is another. The call asks for `asked` cells of its room.
+fn compared<F: FnOnce(&mut [u16], &mut [i64], &mut [i64]) -> Result<usize, Refusal>>(
+    case: Reader,
     asked: u64,
-    room: &[u16],
-    first: &[i64],
-    second: &[i64],
-    text: &[u8],
-    at: usize,
-) -> bool {
-    let number = vectors::integer_at(text, at);
-    if number.magnitude != told.number {
-        return false;
+    call: F,
+) -> Option<bool>
+    requires { F.IsAlwaysCallable call }
+{
+    let mut room = [0u16; CELLS_LENT];
+    let mut first = [0i64; COEFFICIENTS_LENT];
+    let mut second = [0i64; COEFFICIENTS_LENT];
+    compared_on(case, asked, call, &mut room, &mut first, &mut second)
+}
+
+// The same on rooms for any case. They come as arrays: where they are made, the check would count their elements.
+fn compared_on<F: FnOnce(&mut [u16], &mut [i64], &mut [i64]) -> Result<usize, Refusal>>(
+    mut case: Reader,
+    asked: u64,
+    call: F,
+    room: &mut [u16; CELLS_LENT],
+    first: &mut [i64; COEFFICIENTS_LENT],
+    second: &mut [i64; COEFFICIENTS_LENT],
+) -> Option<bool>
+    requires { F.IsAlwaysCallable call }
+{
+    let i = case.lend(room)?;
+    let j = case.lend(first)?;
+    let k = case.lend(second)?;
+    let told = told_by(
+        call(&mut room[..i], &mut first[..j], &mut second[..k]),
+        |length| done(2, length as u64, 0, 0),
+    );
+    let held = held_after(&mut case, told, asked)?;
+    let cells = compare(case.text, held.cells, &room[..i]);
+    let left = compare(case.text, held.second, &second[..k]);
+    let written = case.holds(held.first, &first[..j]);
+    Some(cells.right && left.right && written && case.is_line_end())
+}
+
+// What the rooms hold after the call, as the case says here.
+fn held_after(case: &mut Reader, told: Told, asked: u64) -> Option<Held> {
+    if case.word() != told.number {
+        return None;
     }
     if told.number != 0 {
-        let held = output_at(text, number.next, told.number);
-        return are_held(text, wiped(0), held, wiped(0), room, first, second);
+        return Some(Held {
+            cells: wiped(0),
+            first: output_at(case.text, case.at, told.number),
+            second: wiped(0),
+        });
     }
-    let coefficients = vectors::integer_at(text, number.next);
-    let list = list_at(text, coefficients.next);
+    let zeros = case.word();
+    let list = list_at(case.text, case.at);
     if list.count != told.first {
-        return false;
+        return None;
     }
-    let written = Contents {
-        at: list.at,
-        count: list.count,
-        zeros: coefficients.magnitude,
-    };
-    are_held(
-        text,
-        wiped(asked),
-        written,
-        wiped(coefficients.magnitude),
-        room,
-        first,
-        second,
-    )
-}
-
-// Whether each room holds what it should, and the case ends with the integers of the first coefficient room.
-fn are_held(
-    text: &[u8],
-    asked: Contents,
-    written: Contents,
-    left: Contents,
-    room: &[u16],
-    first: &[i64],
-    second: &[i64],
-) -> bool {
-    let a = are_cells(text, asked, room);
-    let b = are_coefficients(text, written, first);
-    let c = are_coefficients(text, left, second);
-    a.right && b.right && c.right && vectors::is_line_end(text, b.next)
+    Some(Held {
+        cells: wiped(asked),
+        first: Contents { zeros, ..list },
+        second: wiped(zeros),
+    })
 }

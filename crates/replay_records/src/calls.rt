@@ -1,181 +1,114 @@
 // Each call on the arguments of one case, held against the number, the values and the output that the case gives. A case that is larger than
 // the slices here is wrong.
-use monomials::refusal::number_of;
-use records::ideal::{
-    CheckAnswer, CheckOutcome, CopyAnswer, CopyOutcome, SizeAnswer, SizeOutcome, check_place,
-    copy_record, place, write_record,
-};
-use vectors::rooms::{
-    Contents, are_bytes, are_cells, at_most, list_at, put_bytes, put_cells, wiped,
-};
-use vectors::told::{Told, done, is_answer, is_told, output_at, refused};
+use records::ideal::{check_place, copy_record, place, write_record};
+use vectors::reader::Reader;
+use vectors::rooms::{Contents, at_most, list_at, put, wiped};
+use vectors::told::{done, told_by};
 
-#[derive(Clone, Copy)]
-pub enum Verdict {
-    Right,
-    Wrong,
-    Apart,
-}
+// No list has more cells, and no record more bytes.
+const CELLS: usize = 15300;
 
-fn verdict_of(right: bool) -> Verdict {
-    if right {
-        Verdict::Right
-    } else {
-        Verdict::Wrong
-    }
-}
+const BYTES: usize = 30720;
 
-// How the call does what the case says, whose arguments start at `at`.
-pub fn compared(code: u64, text: &[u8], at: usize) -> Verdict {
+// Whether the call with this code does what the case says; none for a case of the bridge alone. The codes are those of the vectors' files, and
+// stand here alone: so no enum of them.
+pub fn compared(code: u64, case: Reader) -> Option<bool> {
     match code {
-        31 => verdict_of(is_write_right(text, at)),
-        32..=34 => compared_record(code, text, at),
-        _ => Verdict::Wrong,
+        31 => Some(is_write_right(case)),
+        32 => Some(is_check_right(case)),
+        33 => compared_place(case),
+        34 => Some(is_copy_right(case)),
+        _ => Some(false),
     }
 }
 
-fn is_write_right(text: &[u8], at: usize) -> bool {
-    let n = vectors::integer_at(text, at);
-    let s = vectors::integer_at(text, n.next);
-    let list = list_at(text, s.next);
-    let mut cells = [0u16; 15300];
-    let next = put_cells(text, list, &mut cells);
-    let m = at_most(list.count, 15300);
-    let mut room = [0u8; 30720];
-    is_write_lent(
-        n.magnitude as usize,
-        s.magnitude as usize,
-        &cells[0..m],
-        &mut room,
-        text,
-        next,
-    )
-}
-
-fn is_write_lent(
-    n: usize,
-    s: usize,
-    cells: &[u16],
-    room: &mut [u8],
-    text: &[u8],
-    at: usize,
-) -> bool {
-    let size = vectors::integer_at(text, at);
-    let k = at_most(size.magnitude, room.len());
-    if k as u64 != size.magnitude {
+fn is_write_right(mut case: Reader) -> bool {
+    let n = case.size();
+    let s = case.size();
+    let mut cells = [0u16; CELLS];
+    let m = case.fill(&mut cells);
+    let mut room = [0u8; BYTES];
+    let Some(k) = case.lend(&mut room) else {
         return false;
-    }
-    is_written(n, s, cells, &mut room[0..k], text, size.next)
+    };
+    let told = told_by(
+        write_record(n, s, &cells[..m], &mut room[..k]),
+        |size| done(2, size as u64, 0, 0),
+    );
+    case.is_written(told, &room[..k])
 }
 
-fn is_written(n: usize, s: usize, cells: &[u16], out: &mut [u8], text: &[u8], at: usize) -> bool {
-    put_bytes(text, wiped(0), out);
-    let told = size_told(write_record(n, s, cells, out));
-    let answer = is_told(text, at, told);
-    let output = are_bytes(text, output_at(text, answer.next, told.number), out);
-    answer.right && output.right && vectors::is_line_end(text, output.next)
+fn is_check_right(mut case: Reader) -> bool {
+    let mut bytes = [0u8; BYTES];
+    let m = case.fill(&mut bytes);
+    let k = case.size();
+    case.is_answer(told_by(check_place(&bytes[..m], k), |()| done(1, 0, 0, 0)))
 }
 
-// The calls on a record, which stands first.
-fn compared_record(code: u64, text: &[u8], at: usize) -> Verdict {
-    let list = list_at(text, at);
-    let mut bytes = [0u8; 30720];
-    let next = put_bytes(text, list, &mut bytes);
-    let m = at_most(list.count, 30720);
-    compared_on(code, &bytes[0..m], text, next)
-}
-
-fn compared_on(code: u64, rec: &[u8], text: &[u8], at: usize) -> Verdict {
-    if code == 34 {
-        return verdict_of(is_copy_right(rec, text, at));
+// An output too small for any part is the bridge's alone.
+fn compared_place(mut case: Reader) -> Option<bool> {
+    let mut bytes = [0u8; BYTES];
+    let m = case.fill(&mut bytes);
+    let k = case.size();
+    let size = case.word();
+    if size < 510 {
+        return None;
     }
-    let k = vectors::integer_at(text, at);
-    if code == 32 {
-        let told = check_told(check_place(rec, k.magnitude as usize));
-        return verdict_of(is_answer(text, k.next, told));
-    }
-    let size = vectors::integer_at(text, k.next);
-    if size.magnitude < 510 {
-        return Verdict::Apart;
-    }
-    verdict_of(is_place_right(rec, k.magnitude as usize, size.magnitude, text, size.next))
+    Some(is_place_right(&bytes[..m], k, size, case))
 }
 
 // The part, held against the front of an output of `size` bytes, and the number that goes with it.
-fn is_place_right(rec: &[u8], k: usize, size: u64, text: &[u8], at: usize) -> bool {
+fn is_place_right(rec: &[u8], k: usize, size: u64, mut case: Reader) -> bool {
     let part = place(rec, k);
-    let check = check_told(check_place(rec, k));
-    if check.number != 0 {
-        return part.len() == 0 && is_answer(text, at, check);
+    let check = check_place(rec, k);
+    if check.is_err() {
+        return part.is_empty() && case.is_answer(told_by(check, |()| done(1, 0, 0, 0)));
     }
-    let answer = is_told(text, at, done(2, part.len() as u64, 0, 0));
-    answer.right && is_part_right(part, size, text, answer.next)
+    case.is_told(done(2, part.len() as u64, 0, 0)) && is_part_right(part, size, case)
 }
 
-// Whether the list at `at` is the part and then, up to its size, what an output held.
-fn is_part_right(part: &[u8], size: u64, text: &[u8], at: usize) -> bool {
-    let list = list_at(text, at);
+// Whether the list here is the part and then, up to its size, what an output held.
+fn is_part_right(part: &[u8], size: u64, mut case: Reader) -> bool {
+    let list = list_at(case.text, case.at);
     let front = Contents {
-        at: list.at,
         count: part.len() as u64,
-        zeros: 0,
+        ..list
     };
-    let first = are_bytes(text, front, part);
+    let first = case.holds(front, part);
     let mut room = [0u8; 1024];
-    put_bytes(text, wiped(0), &mut room);
+    put(case.text, wiped(0), &mut room);
     let from = at_most(part.len() as u64, 1024);
     let to = at_most(size, 1024);
-    list.count == size && first.right && is_rest_right(&room, from, to, text, first.next)
+    list.count == size && first && is_rest_right(&room, from, to, case)
 }
 
-fn is_rest_right(room: &[u8], from: usize, to: usize, text: &[u8], at: usize) -> bool {
-    if to < from || room.len() < to {
+fn is_rest_right(room: &[u8], from: usize, to: usize, mut case: Reader) -> bool {
+    let Some(rest) = room.get(from..to) else {
         return false;
-    }
-    let rest = Contents {
-        at,
-        count: (to - from) as u64,
+    };
+    let contents = Contents {
+        at: case.at,
+        count: rest.len() as u64,
         zeros: 0,
     };
-    let last = are_bytes(text, rest, &room[from..to]);
-    last.right && vectors::is_line_end(text, last.next)
+    case.holds(contents, rest) && case.is_line_end()
 }
 
-fn is_copy_right(rec: &[u8], text: &[u8], at: usize) -> bool {
-    let size = vectors::integer_at(text, at);
+fn is_copy_right(mut case: Reader) -> bool {
+    let mut bytes = [0u8; BYTES];
+    let m = case.fill(&mut bytes);
+    is_copied(&bytes[..m], case)
+}
+
+fn is_copied(rec: &[u8], mut case: Reader) -> bool {
     let mut room = [0u16; 300];
-    put_cells(text, wiped(0), &mut room);
-    let k = at_most(size.magnitude, 300);
-    k as u64 == size.magnitude && is_copied(rec, &mut room[0..k], text, size.next)
-}
-
-fn is_copied(rec: &[u8], cells: &mut [u16], text: &[u8], at: usize) -> bool {
-    let told = copy_told(copy_record(rec, cells));
-    let answer = is_told(text, at, told);
-    let output = are_cells(text, output_at(text, answer.next, told.number), cells);
-    answer.right && output.right && vectors::is_line_end(text, output.next)
-}
-
-fn size_told(answer: SizeAnswer) -> Told {
-    let outcome = answer.outcome;
-    match outcome {
-        SizeOutcome::Value(size) => done(2, size as u64, 0, 0),
-        SizeOutcome::Refused(r) => refused(number_of(r)),
-    }
-}
-
-fn check_told(answer: CheckAnswer) -> Told {
-    let outcome = answer.outcome;
-    match outcome {
-        CheckOutcome::Done => done(1, 0, 0, 0),
-        CheckOutcome::Refused(r) => refused(number_of(r)),
-    }
-}
-
-fn copy_told(answer: CopyAnswer) -> Told {
-    let outcome = answer.outcome;
-    match outcome {
-        CopyOutcome::Value(shape) => done(3, shape.n as u64, shape.m as u64, 0),
-        CopyOutcome::Refused(r) => refused(number_of(r)),
-    }
+    let Some(k) = case.lend(&mut room) else {
+        return false;
+    };
+    let out = &mut room[..k];
+    let told = told_by(
+        copy_record(rec, out),
+        |shape| done(3, shape.n as u64, shape.m as u64, 0),
+    );
+    case.is_written(told, out)
 }

@@ -15,6 +15,7 @@ pub fn read_full<R: Read>(input: &mut R, room: &mut [u8]) -> io::Result<usize>
     ensures end { IfOk result (λ n. n < length room.new → IsAtEnd (R.remaining input.new)) }
 {
     let mut size: usize = 0;
+    // Not a `for`: a read takes as many bytes as the input gives.
     while size < room.len() {
         let n = input.read(&mut room[size..])?;
         if n == 0 {

@@ -16,14 +16,8 @@ use Rattle.vectors.proofs.is_line_end.Reads as is_line_end
 use Rattle.vectors.proofs.rooms.list_at.Reads as list_at
 use Rattle.vectors.proofs.rooms.wiped.Reads as wiped
 use Rattle.vectors.proofs.rooms.at_most.Reads as at_most
-use Rattle.vectors.proofs.rooms.put_bytes.Reads as put_bytes
-use Rattle.vectors.proofs.rooms.put_cells.Reads as put_cells
-use Rattle.vectors.proofs.rooms.put_words.Reads as put_words
-use Rattle.vectors.proofs.rooms.put_coefficients.Reads as put_coefficients
-use Rattle.vectors.proofs.rooms.are_bytes.Reads as are_bytes
-use Rattle.vectors.proofs.rooms.are_cells.Reads as are_cells
-use Rattle.vectors.proofs.rooms.are_words.Reads as are_words
-use Rattle.vectors.proofs.rooms.are_coefficients.Reads as are_coefficients
+use Rattle.vectors.proofs.rooms.put.Reads as put
+use Rattle.vectors.proofs.rooms.compare.Reads as compare
 use Rattle.vectors.proofs.counts.tally.Reads as tally
 use Rattle.vectors.proofs.counts.say_counts.Reads as say_counts
 use Rattle.vectors.proofs.asked.cells_asked.Reads as cells_asked
@@ -53,29 +47,12 @@ pub at_most_determined : (κs : Lfts 0) (a : _) (r r' : ℕ) (s s' : _) → at_m
 at_most_determined κs a r r' s s' p q = p ∙ sym q
 
 -- of the place and of what the slice then holds
-pub put_bytes_determined : (κs : Lfts 2) (a : _) (r r' : ℕ) (s s' : _) → put_bytes.Post κs a r s → put_bytes.Post κs a r' s' → (r ≡ r') × (s.1.1.0.now ≡ s'.1.1.0.now)
-put_bytes_determined κs a r r' s s' p q = (p.0 ∙ sym q.0, p.1 ∙ sym q.1)
+-- of the place and of what the slice then holds, at every type of element
+pub put_determined : (T : RattleType) (laws : Laws T) (copy : _) (element : _) (dict : Dict) (clone : _) (clone_dict : Dict) (κs : Lfts 3) (a : _) (r r' : ℕ) (s s' : _) → put.Post T laws copy element dict clone clone_dict κs a r s → put.Post T laws copy element dict clone clone_dict κs a r' s' → (r ≡ r') × (s.1.1.0.now ≡ s'.1.1.0.now)
+put_determined T laws copy element dict clone clone_dict κs a r r' s s' p q = (p.0 ∙ sym q.0, p.1 ∙ sym q.1)
 
-pub put_cells_determined : (κs : Lfts 2) (a : _) (r r' : ℕ) (s s' : _) → put_cells.Post κs a r s → put_cells.Post κs a r' s' → (r ≡ r') × (s.1.1.0.now ≡ s'.1.1.0.now)
-put_cells_determined κs a r r' s s' p q = (p.0 ∙ sym q.0, p.1 ∙ sym q.1)
-
-pub put_words_determined : (κs : Lfts 2) (a : _) (r r' : ℕ) (s s' : _) → put_words.Post κs a r s → put_words.Post κs a r' s' → (r ≡ r') × (s.1.1.0.now ≡ s'.1.1.0.now)
-put_words_determined κs a r r' s s' p q = (p.0 ∙ sym q.0, p.1 ∙ sym q.1)
-
-pub put_coefficients_determined : (κs : Lfts 2) (a : _) (r r' : ℕ) (s s' : _) → put_coefficients.Post κs a r s → put_coefficients.Post κs a r' s' → (r ≡ r') × (s.1.1.0.now ≡ s'.1.1.0.now)
-put_coefficients_determined κs a r r' s s' p q = (p.0 ∙ sym q.0, p.1 ∙ sym q.1)
-
-pub are_bytes_determined : (κs : Lfts 2) (a : _) (r r' : Compared) (s s' : _) → are_bytes.Post κs a r s → are_bytes.Post κs a r' s' → r ≡ r'
-are_bytes_determined κs a r r' s s' p q = p ∙ sym q
-
-pub are_cells_determined : (κs : Lfts 2) (a : _) (r r' : Compared) (s s' : _) → are_cells.Post κs a r s → are_cells.Post κs a r' s' → r ≡ r'
-are_cells_determined κs a r r' s s' p q = p ∙ sym q
-
-pub are_words_determined : (κs : Lfts 2) (a : _) (r r' : Compared) (s s' : _) → are_words.Post κs a r s → are_words.Post κs a r' s' → r ≡ r'
-are_words_determined κs a r r' s s' p q = p ∙ sym q
-
-pub are_coefficients_determined : (κs : Lfts 2) (a : _) (r r' : Compared) (s s' : _) → are_coefficients.Post κs a r s → are_coefficients.Post κs a r' s' → r ≡ r'
-are_coefficients_determined κs a r r' s s' p q = p ∙ sym q
+pub compare_determined : (T : RattleType) (laws : Laws T) (copy : _) (element : _) (dict : Dict) (clone : _) (clone_dict : Dict) (κs : Lfts 3) (a : _) (r r' : Compared) (s s' : _) → compare.Post T laws copy element dict clone clone_dict κs a r s → compare.Post T laws copy element dict clone clone_dict κs a r' s' → r ≡ r'
+compare_determined T laws copy element dict clone clone_dict κs a r r' s s' p q = p ∙ sym q
 
 -- of what the counts then are
 pub tally_determined : (κs : Lfts 1) (a : _) (r r' : _) (s s' : _) → tally.Post κs a r s → tally.Post κs a r' s' → s.0.now ≡ s'.0.now

@@ -2,4 +2,6 @@
 mod Reading
 mod Holding
 mod Counting
+mod Replaying
 pub mod Determined
+pub mod Instances

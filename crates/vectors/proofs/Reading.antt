@@ -1,14 +1,13 @@
 -- A text, byte by byte.
 --   minus_inside                        a minus stands inside the text
---   digit_bounds                        a digit lies between 0 and 9
+--   digit_test                          what lies between 0 and 9 is a digit
 --   value_more, value_here, value_none  the number so far, at a digit, at another byte, at the end
 --   end_more, end_here, end_none        where the number ends
 --   line_more, line_here, line_none     where the line ends
 -- Assumes nothing.
-use Rattle.std.proofs.Common.{◌≡◌, ℕ, ◌+◌, ◌-◌, ◌*◌, ◌<◌, ◌≤◌, min, Bool, true, false, leb, List, [], ◌∷◌, length, get_or, drop, sym, refl, arith, length-drop, drop_of_length-le, eq-eqb, ne_eqb, eqb-true, leb-false, leb-true}
+use Rattle.std.proofs.Common.{◌≡◌, ℕ, ◌+◌, ◌-◌, ◌*◌, ◌<◌, ◌≤◌, min, Bool, true, false, leb, List, [], ◌∷◌, length, get_or, drop, sym, refl, arith, length-drop, drop_of_length-le, eq-eqb, ne_eqb, eqb-true, leb-false, leb-true, le-leb}
 use lib.ListN.{get_or-eq_default}
 use Rattle.laws.proofs.Lists.{drop_next}
-use Rattle.laws.proofs.Monomial.{and_left, and_right}
 use Rattle.vectors.specs.Text.{largest, is_digit, is_minus, digits, value_of, end_of, line_after}
 
 pub minus_inside : (s : List ℕ) (at : ℕ) → is_minus s at ≡ true → at < length s
@@ -18,8 +17,8 @@ minus_inside s at h = go (leb (length s) at) refl
     go true e = absurd (omega (arith, eqb-true (get_or s at 0) 45 h, get_or-eq_default s 0 (leb-true (length s) at e)))
     go false e = leb-false (length s) at e
 
-pub digit_bounds : (b : ℕ) → is_digit b ≡ true → (48 ≤ b) × (b ≤ 57)
-digit_bounds b h = (leb-true 48 b (and_left (leb 48 b) (leb b 57) h), leb-true b 57 (and_right (leb 48 b) (leb b 57) h))
+pub digit_test : (b : ℕ) → 48 ≤ b → b ≤ 57 → is_digit b ≡ true
+digit_test b h g = rw (le-leb 48 b h, le-leb b 57 g)
 
 -- more digits make no smaller number
 value_ge : (v : ℕ) (ds : List ℕ) → v ≤ value_of v ds

@@ -4,3 +4,5 @@ pub mod Rooms
 pub mod Counts
 pub mod Asked
 pub mod Told
+pub mod Reader
+pub mod Replay

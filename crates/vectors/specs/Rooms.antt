@@ -2,6 +2,7 @@
 --   bits_of i          == the 64 bits of the integer i
 --   place_after k s at == the place after k integers that stand at `at`
 --   wanted s c j       == element j of what c says, as 64 bits
+--   byte_of b, cell_of b == the low 8 or 16 of 64 bits
 --   byte_at, cell_at, word_at, coefficient_at == the same as an element of a slice
 --   list_of n f        == f 0, .., f (n − 1)
 --   every n p          == p holds of each number below n
@@ -28,11 +29,17 @@ place_after (suc k) s at = (integer_at s (place_after k s at)).next
 abbrev pub wanted : List ℕ → Contents → ℕ → ℕ
 wanted s c j = cond (nat_lt j c.count) (bits_of (integer_at s (place_after j s c.at))) (cond (nat_lt j c.zeros) 0 (7 + j % 5))
 
+abbrev pub byte_of : ℕ → ℕ
+byte_of b = b % 2 ^ 8
+
+abbrev pub cell_of : ℕ → ℕ
+cell_of b = b % 2 ^ 16
+
 abbrev pub byte_at : List ℕ → Contents → ℕ → ℕ
-byte_at s c j = wanted s c j % 2 ^ 8
+byte_at s c j = byte_of (wanted s c j)
 
 abbrev pub cell_at : List ℕ → Contents → ℕ → ℕ
-cell_at s c j = wanted s c j % 2 ^ 16
+cell_at s c j = cell_of (wanted s c j)
 
 abbrev pub word_at : List ℕ → Contents → ℕ → ℕ
 word_at s c j = wanted s c j

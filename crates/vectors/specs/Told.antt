@@ -4,6 +4,8 @@
 --   told_at at t          == as many integers, at `at`
 --   answered s at t       == those words stand at `at`, and then the line ends
 --   output_at s at number == what an output then holds: the list at `at` after 0, and else what it held, with nothing more at `at`
+--   place_told s at t     == the place after them
+--   written s at t xs     == those words stand at `at`, then xs is that output, and then the line ends
 -- Assumes nothing.
 use Rattle.std.specs.Prelude.{◌≡◌, ℕ, min, Bool, cond, ◌&&◌, List, [], ◌∷◌, take, ◌==◌, refl}
 use Rattle.vectors.specs.Text.{line_ended}
@@ -28,6 +30,14 @@ answered s at t = (compared s (told_at at t) (told_words t)).right && line_ended
 
 abbrev pub output_at : List ℕ → ℕ → ℕ → Contents
 output_at s at number = cond (number == 0) (list_at s at) (record { at = at; count = 0; zeros = 0 })
+
+abbrev pub place_told : List ℕ → ℕ → Told → ℕ
+place_told s at t = (compared s (told_at at t) (told_words t)).next
+
+abbrev pub written : List ℕ → ℕ → Told → List ℕ → Bool
+written s at t xs =
+    (compared s (told_at at t) (told_words t)).right && (compared s (output_at s (place_told s at t) t.number) xs).right
+    && line_ended s (compared s (output_at s (place_told s at t) t.number) xs).next
 
 test_refused : told_words (refused_by 13) ≡ 13 ∷ []
 test_refused = refl

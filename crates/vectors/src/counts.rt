@@ -20,13 +20,12 @@ pub fn say_counts(counts: &[u64], out: &mut impl Write) -> io::Result<u64>
     ensures { IfOk result (λ compared. compared ≡ total (drop 1 counts.now) % 2 ^ 64) }
 {
     let mut compared: u64 = 0;
-    let mut code: usize = 1;
-    while code < counts.len() {
-        say_count(code as u64, counts[code], out)?;
-        compared = std::num::wrapping_add_u64(compared, counts[code]);
-        code += 1;
+    for code in 1..counts.len() {
+        say_count(code, counts[code], out)?;
+        compared = compared.wrapping_add(counts[code]);
     }
-    say_all(compared, wrong_in(counts), out)?;
+    let wrong = counts.first().copied().unwrap_or(0);
+    writeln!(out, "{compared} compared, {wrong} wrong")?;
     Ok(compared)
 }
 
@@ -35,24 +34,13 @@ fn add_one(counts: &mut [u64], code: u64)
 {
     if code < counts.len() as u64 {
         let i = code as usize;
-        counts[i] = std::num::wrapping_add_u64(counts[i], 1);
+        counts[i] = counts[i].wrapping_add(1);
     }
 }
 
-fn wrong_in(counts: &[u64]) -> u64 {
-    if counts.len() == 0 {
-        return 0;
-    }
-    counts[0]
-}
-
-fn say_count(code: u64, cases: u64, out: &mut impl Write) -> io::Result<()> {
+fn say_count(code: usize, cases: u64, out: &mut impl Write) -> io::Result<()> {
     if cases != 0 {
         writeln!(out, "call {code}: {cases}")?;
     }
     Ok(())
-}
-
-fn say_all(compared: u64, wrong: u64, out: &mut impl Write) -> io::Result<()> {
-    writeln!(out, "{compared} compared, {wrong} wrong")
 }

@@ -3,12 +3,15 @@
 
 pub mod asked;
 pub mod counts;
+pub mod reader;
+pub mod replay;
 pub mod rooms;
 pub mod told;
 
-ghost use Rattle.std.specs.Prelude.{◌≡◌, ◌+◌, ◌-◌, ◌*◌, ◌<◌, ◌≤◌, min, length, drop};
-ghost use Rattle.vectors.specs.Text.{largest, is_digit, is_minus, magnitude_of, end_of, integer_at, line_after, line_ended};
+ghost use Rattle.std.specs.Prelude.{◌≡◌, ◌+◌, ◌<◌, length, drop};
+ghost use Rattle.vectors.specs.Text.{is_minus, magnitude_of, end_of, integer_at, line_after, line_ended};
 
+// An integer as the text has it: no word holds every sign and magnitude.
 #[derive(Clone, Copy)]
 pub struct Integer {
     pub negative: bool,
@@ -20,7 +23,7 @@ pub struct Integer {
 pub fn integer_at(text: &[u8], at: usize) -> Integer
     ensures { result ≡ integer_at text.now at }
 {
-    let negative = minus_at(text, at);
+    let negative = is_minus(text, at);
     let start = if negative { at + 1 } else { at };
     let digits = digits_at(text, start);
     Integer {
@@ -34,37 +37,25 @@ pub fn integer_at(text: &[u8], at: usize) -> Integer
 pub fn line_after(text: &[u8], at: usize) -> usize
     ensures { (result ≡ line_after text.now at) × (at < length text.now → at < result) }
 {
-    let mut i = at;
-    while i < text.len() {
-        if text[i] == 10 {
+    for i in at..text.len() {
+        if text[i] == b'\n' {
             return i + 1;
         }
-        i += 1;
     }
-    i
+    at.max(text.len())
 }
 
 // Whether the byte before `at` ends a line: a case whose last integer ends there has no more.
 pub fn is_line_end(text: &[u8], at: usize) -> bool
     ensures { result ≡ line_ended text.now at }
 {
-    if at == 0 {
-        return false;
-    }
-    if text.len() < at {
-        return false;
-    }
-    text[at - 1] == 10
+    at != 0 && at <= text.len() && text[at - 1] == b'\n'
 }
 
-fn minus_at(text: &[u8], at: usize) -> bool
+fn is_minus(text: &[u8], at: usize) -> bool
     ensures { result ≡ is_minus text.now at }
 {
-    if at < text.len() {
-        text[at] == 45
-    } else {
-        false
-    }
+    at < text.len() && text[at] == b'-'
 }
 
 // A number without a sign.
@@ -74,44 +65,25 @@ struct Digits {
     next: usize,
 }
 
-// The digits at `at`, and the place after the byte that ends them.
+// The digits at `at`, and the place after the byte that ends them. The number is never above the largest word.
 fn digits_at(text: &[u8], at: usize) -> Digits
     ensures { (result.magnitude ≡ magnitude_of (drop at text.now)) × (result.next ≡ end_of text.now at) }
 {
     let mut magnitude: u64 = 0;
-    let mut i = at;
-    while i < text.len() {
-        if !is_digit(text[i]) {
+    for i in at..text.len() {
+        let byte = text[i];
+        if byte < b'0' || b'9' < byte {
             return Digits {
                 magnitude,
                 next: i + 1,
             };
         }
-        magnitude = with_digit(magnitude, text[i]);
-        i += 1;
+        magnitude = magnitude
+            .saturating_mul(10)
+            .saturating_add(u64::from(byte - b'0'));
     }
-    Digits { magnitude, next: i }
-}
-
-fn is_digit(byte: u8) -> bool
-    ensures { result ≡ is_digit byte }
-{
-    48 <= byte && byte <= 57
-}
-
-// One digit more, and never above the largest word.
-fn with_digit(magnitude: u64, byte: u8) -> u64
-    requires { (48 ≤ byte) × (byte ≤ 57) }
-    ensures { result ≡ min (magnitude * 10 + (byte - 48)) largest }
-{
-    let digit = byte - 48;
-    if 1844674407370955161 < magnitude {
-        return 18446744073709551615;
+    Digits {
+        magnitude,
+        next: at.max(text.len()),
     }
-    let tens = magnitude * 10;
-    let rest = 18446744073709551615 - tens;
-    if rest < digit as u64 {
-        return 18446744073709551615;
-    }
-    tens + (digit as u64)
 }

@@ -1,11 +1,81 @@
 // Slices of cells, coefficients, words and bytes that a case gives or lends: filled before a call, and compared after it.
-ghost use Rattle.std.specs.Prelude.{◌≡◌, ◌+◌, ◌%◌, ◌^◌, min, ◌&&◌, map, length, if◌then◌else◌, ◌==◌, nat_le, nat_lt};
-ghost use Rattle.std.proofs.Common.{of_z};
+ghost use Rattle.std.specs.Prelude.{◌≡◌, ℕ, ◌+◌, ◌%◌, min, map, length, if◌then◌else◌, nat_lt};
+ghost use Rattle.std.proofs.Common.{of_z, to_z};
 ghost use Rattle.std.specs.Int.{w64};
-ghost use Rattle.vectors.specs.Rooms.{bits_of, place_in, wanted, byte_at, cell_at, word_at, coefficient_at, list_of, list_at, wiped as wiped_by, compared};
+ghost use Rattle.vectors.specs.Rooms.{bits_of, byte_of, cell_of, place_in, wanted, list_of, list_at, wiped as wiped_by, compared};
 
 use crate::{Integer, integer_at};
 use numbers::signed::{from_bits, to_bits};
+
+// An element of a slice, and the 64 bits that stand for it in a text.
+pub trait Element: Copy {
+    ghost of_bits: { ℕ → Self };
+
+    ghost bits: { Self → ℕ };
+
+    // The element with these bits; a narrow one keeps the low ones.
+    fn of_bits(x: u64) -> Self
+        ensures { result ≡ of_bits x };
+
+    fn bits(self) -> u64
+        ensures { result ≡ bits self };
+}
+
+impl Element for u8 {
+    ghost of_bits = { byte_of };
+
+    ghost bits = { λ x. x };
+
+    fn of_bits(x: u64) -> u8 {
+        (x % 256) as u8
+    }
+
+    fn bits(self) -> u64 {
+        u64::from(self)
+    }
+}
+
+impl Element for u16 {
+    ghost of_bits = { cell_of };
+
+    ghost bits = { λ x. x };
+
+    fn of_bits(x: u64) -> u16 {
+        (x % 65536) as u16
+    }
+
+    fn bits(self) -> u64 {
+        u64::from(self)
+    }
+}
+
+impl Element for u64 {
+    ghost of_bits = { λ b. b };
+
+    ghost bits = { λ x. x };
+
+    fn of_bits(x: u64) -> u64 {
+        x
+    }
+
+    fn bits(self) -> u64 {
+        self
+    }
+}
+
+impl Element for i64 {
+    ghost of_bits = { to_z w64 };
+
+    ghost bits = { of_z w64 };
+
+    fn of_bits(x: u64) -> i64 {
+        from_bits(x)
+    }
+
+    fn bits(self) -> u64 {
+        to_bits(self)
+    }
+}
 
 // What a slice holds: `count` integers that stand at `at` in the text, then zeros up to element `zeros`, and then, in element j, 7 + j % 5.
 #[derive(Clone, Copy)]
@@ -15,7 +85,7 @@ pub struct Contents {
     pub zeros: u64,
 }
 
-// Whether a slice has all the integers and holds what it should, and the place after them.
+// Whether a slice has all the integers and holds what it should, and the place after them, which a wrong slice has too: so no Option.
 #[derive(Clone, Copy)]
 pub struct Compared {
     pub right: bool,
@@ -56,138 +126,38 @@ pub fn wiped(zeros: u64) -> Contents
 pub fn at_most(x: u64, most: usize) -> usize
     ensures { result ≡ min x most }
 {
-    if x < most as u64 {
-        return x as usize;
-    }
-    most
+    x.min(most as u64) as usize
 }
 
-// Fills the bytes, and answers the place after the integers.
-pub fn put_bytes(text: &[u8], contents: Contents, room: &mut [u8]) -> usize
+// Fills the room, and answers the place after the integers.
+pub fn put<T: Element>(text: &[u8], contents: Contents, room: &mut [T]) -> usize
     ensures value { result ≡ place_in text.now contents (length room.old) }
-    ensures room_after { room.new ≡ list_of (length room.old) (byte_at text.now contents) }
+    ensures room_after { room.new ≡ list_of (length room.old) (λ j. T.of_bits (wanted text.now contents j)) }
 {
     let mut next = contents.at;
-    let mut j: usize = 0;
-    while j < room.len() {
+    for j in 0..room.len() {
         let want = wanted_at(text, contents, next, j);
-        room[j] = byte_of(want.bits);
+        room[j] = T::of_bits(want.bits);
         next = want.next;
-        j += 1;
     }
     next
 }
 
-// Whether the bytes are what the contents say.
-pub fn are_bytes(text: &[u8], contents: Contents, room: &[u8]) -> Compared
-    ensures { result ≡ compared text.now contents room.now }
+// Whether the room is what the contents say. One integer more than there are elements is wrong too.
+pub fn compare<T: Element>(text: &[u8], contents: Contents, room: &[T]) -> Compared
+    ensures { result ≡ compared text.now contents (map T.bits room.now) }
 {
     let mut right = true;
     let mut next = contents.at;
-    let mut j: usize = 0;
-    while j < room.len() {
+    for j in 0..room.len() {
         let want = wanted_at(text, contents, next, j);
-        right = agree(right, wide_byte(room[j]), want.bits);
+        right &= room[j].bits() == want.bits;
         next = want.next;
-        j += 1;
     }
-    settled(contents, right, room.len(), next)
-}
-
-// Fills the cells, and answers the place after the integers.
-pub fn put_cells(text: &[u8], contents: Contents, room: &mut [u16]) -> usize
-    ensures value { result ≡ place_in text.now contents (length room.old) }
-    ensures room_after { room.new ≡ list_of (length room.old) (cell_at text.now contents) }
-{
-    let mut next = contents.at;
-    let mut j: usize = 0;
-    while j < room.len() {
-        let want = wanted_at(text, contents, next, j);
-        room[j] = cell_of(want.bits);
-        next = want.next;
-        j += 1;
+    Compared {
+        right: right && contents.count <= room.len() as u64,
+        next,
     }
-    next
-}
-
-// Whether the cells are what the contents say.
-pub fn are_cells(text: &[u8], contents: Contents, room: &[u16]) -> Compared
-    ensures { result ≡ compared text.now contents room.now }
-{
-    let mut right = true;
-    let mut next = contents.at;
-    let mut j: usize = 0;
-    while j < room.len() {
-        let want = wanted_at(text, contents, next, j);
-        right = agree(right, wide(room[j]), want.bits);
-        next = want.next;
-        j += 1;
-    }
-    settled(contents, right, room.len(), next)
-}
-
-// Fills the words, and answers the place after the integers.
-pub fn put_words(text: &[u8], contents: Contents, room: &mut [u64]) -> usize
-    ensures value { result ≡ place_in text.now contents (length room.old) }
-    ensures room_after { room.new ≡ list_of (length room.old) (word_at text.now contents) }
-{
-    let mut next = contents.at;
-    let mut j: usize = 0;
-    while j < room.len() {
-        let want = wanted_at(text, contents, next, j);
-        room[j] = want.bits;
-        next = want.next;
-        j += 1;
-    }
-    next
-}
-
-// Whether the words are what the contents say.
-pub fn are_words(text: &[u8], contents: Contents, room: &[u64]) -> Compared
-    ensures { result ≡ compared text.now contents room.now }
-{
-    let mut right = true;
-    let mut next = contents.at;
-    let mut j: usize = 0;
-    while j < room.len() {
-        let want = wanted_at(text, contents, next, j);
-        right = agree(right, room[j], want.bits);
-        next = want.next;
-        j += 1;
-    }
-    settled(contents, right, room.len(), next)
-}
-
-// Fills the coefficients, and answers the place after the integers.
-pub fn put_coefficients(text: &[u8], contents: Contents, room: &mut [i64]) -> usize
-    ensures value { result ≡ place_in text.now contents (length room.old) }
-    ensures room_after { room.new ≡ list_of (length room.old) (coefficient_at text.now contents) }
-{
-    let mut next = contents.at;
-    let mut j: usize = 0;
-    while j < room.len() {
-        let want = wanted_at(text, contents, next, j);
-        room[j] = from_bits(want.bits);
-        next = want.next;
-        j += 1;
-    }
-    next
-}
-
-// Whether the coefficients are what the contents say.
-pub fn are_coefficients(text: &[u8], contents: Contents, room: &[i64]) -> Compared
-    ensures { result ≡ compared text.now contents (map (of_z w64) room.now) }
-{
-    let mut right = true;
-    let mut next = contents.at;
-    let mut j: usize = 0;
-    while j < room.len() {
-        let want = wanted_at(text, contents, next, j);
-        right = agree(right, to_bits(room[j]), want.bits);
-        next = want.next;
-        j += 1;
-    }
-    settled(contents, right, room.len(), next)
 }
 
 // Element j of the contents, whose next integer stands at `at`.
@@ -218,51 +188,12 @@ fn left(j: usize, zeros: u64) -> u64
     7 + (j % 5) as u64
 }
 
-fn cell_of(bits: u64) -> u16
-    ensures { result ≡ bits % 2 ^ 16 }
-{
-    (bits % 65536) as u16
-}
-
-fn wide(x: u16) -> u64
-    ensures { result ≡ x }
-{
-    x as u64
-}
-
-fn byte_of(bits: u64) -> u8
-    ensures { result ≡ bits % 2 ^ 8 }
-{
-    (bits % 256) as u8
-}
-
-fn wide_byte(x: u8) -> u64
-    ensures { result ≡ x }
-{
-    x as u64
-}
-
 fn bits_of(x: Integer) -> u64
     ensures { result ≡ bits_of x }
 {
     if x.negative {
-        return std::num::wrapping_sub_u64(0, x.magnitude);
-    }
-    x.magnitude
-}
-
-fn agree(right: bool, x: u64, y: u64) -> bool
-    ensures { result ≡ (right && x == y) }
-{
-    right && x == y
-}
-
-// One integer more than there are elements is wrong too.
-fn settled(contents: Contents, right: bool, size: usize, next: usize) -> Compared
-    ensures { (result.right ≡ (right && nat_le contents.count size)) × (result.next ≡ next) }
-{
-    Compared {
-        right: right && contents.count <= size as u64,
-        next,
+        x.magnitude.wrapping_neg()
+    } else {
+        x.magnitude
     }
 }

@@ -1,12 +1,14 @@
 // What a call tells, held against a case: the number, after 0 the values, and then the output.
-ghost use Rattle.std.specs.Prelude.{◌≡◌};
+ghost use Rattle.std.specs.Prelude.{◌≡◌, MatchResult};
+ghost use Rattle.monomials.specs.Refusal.{number};
 ghost use Rattle.vectors.specs.Rooms.{compared};
 ghost use Rattle.vectors.specs.Told.{refused_by, done_with, told_at, told_words, answered, output_at};
 
 use crate::is_line_end;
-use crate::rooms::{Compared, Contents, are_words, at_most, list_at};
+use crate::rooms::{Compared, Contents, at_most, compare, list_at};
+use monomials::refusal::{Refusal, number_of};
 
-// The first `count` of the number and three values.
+// The first `count` of the number and three values. A refusal is told by its number, which is compared as a value is: so no Result.
 #[derive(Clone, Copy)]
 pub struct Told {
     pub count: u64,
@@ -22,10 +24,21 @@ pub fn refused(number: u8) -> Told
 {
     Told {
         count: 1,
-        number: number as u64,
+        number: u64::from(number),
         first: 0,
         second: 0,
         third: 0,
+    }
+}
+
+// What a call answers, told by its words, or as a refusal.
+pub fn told_by<T, F: FnOnce(T) -> Told>(answer: Result<T, Refusal>, words: F) -> Told
+    requires { F.IsAlwaysCallable words }
+    ensures { MatchResult answer (λ x. F.post words x result) (λ r. result ≡ refused_by (number r)) }
+{
+    match answer {
+        Ok(value) => words(value),
+        Err(refusal) => refused(number_of(refusal)),
     }
 }
 
@@ -53,7 +66,7 @@ pub fn is_told(text: &[u8], at: usize, told: Told) -> Compared
         count: k as u64,
         zeros: 0,
     };
-    are_words(text, contents, &words[0..k])
+    compare(text, contents, &words[..k])
 }
 
 // Whether the integers from `at` to the end of the line are those told.

@@ -2,5 +2,4 @@
 use Rattle.bridge.proofs.mask.pt_mask.Goals as goal
 
 pub returns : goal.returns
-returns c =
-    let told = rw c.mask.ensures at c.of_mask.ensures in record { value = rw told at c.tell.ensures.value; values_after = rw told at c.tell.ensures.values_after }
+returns c = record { value = rw c.mask.ensures at c.tell.ensures.value; values_after = rw c.mask.ensures at c.tell.ensures.values_after }

@@ -1,4 +1,4 @@
--- `mask_word` meets its contract: the word so far is that of the bits passed. Rests on `word_of_lt`.
+-- `mask_word` meets its contract: the word so far is that of the bits passed. Rests on `word_of_fits`.
 use native.Mathlib.Omega.{arith}
 use mathlib.Core.Path.{◌≡◌}
 use Prim.Native.Nat.{ℕ, ◌+◌}
@@ -17,4 +17,4 @@ returns c =
     let a = c.args in
     let i = c.loop-i.i in
     let e : i ≡ 64 = omega arith in
-    rw e at c.loop-i.invariant.1
+    rw e at c.loop-i.invariant

@@ -1,17 +1,10 @@
--- `lcm` meets its contract. Rests on `zip_lcm`.
-use mathlib.Core.Path.{◌∙◌}
+-- The cells that `write_cells` leaves are the lcm. Rests on `lcm_cells`.
+use Rattle.std.proofs.Common.{rules, ◌≡◌}
 use Rattle.laws.specs.Monomial.{lcm}
-use Rattle.monomials.specs.Cells.{combined_of, zip_cells}
-use Rattle.monomials.specs.declared.cells.Combine.TheVariants.{Greater}
-use Rattle.monomials.specs.Monomial.{write_checks}
-use Rattle.monomials.proofs.Checks.{max_width, write_width, after_passed}
-use Rattle.monomials.proofs.Pairs.{zip_lcm}
+use Rattle.monomials.proofs.Pairs.{lcm_cells}
 use Rattle.monomials.proofs.monomial.lcm.Goals as goal
 
-pub returns : goal.returns
-returns c =
-    let a = c.args.a.now in
-    let b = c.args.b.now in
-    let out = c.args.out.now in
-    let checks = write_checks max_width a b out in
-    record { value = c.write_pair.ensures.value; out_after = c.write_pair.ensures.out_after ∙ after_passed checks (zip_cells (combined_of Greater) a b) (lcm a b) out (λ h. zip_lcm a b (write_width max_width a b out h)) }
+pub returns-clause-out_after : goal.returns-clause-out_after
+returns-clause-out_after c =
+    let e : c.write_cells.new.out ≡ lcm c.args.a.now c.args.b.now = lcm_cells c.args.a.now c.args.b.now c.write_cells.new.out (search rules) (search rules) (λ k h. search (rules, c.write_cells.ensures k h)) in
+    search (rules, e)

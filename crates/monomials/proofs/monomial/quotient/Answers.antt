@@ -1,19 +1,15 @@
--- `quotient` meets its contract. Rests on `all_divisor` and `zip_quotient`.
-use mathlib.Core.Path.{◌∙◌}
-use Rattle.laws.specs.Monomial.{divides, quotient}
-use Rattle.monomials.specs.Cells.{passes_of, combined_of, all_cells, zip_cells}
-use Rattle.monomials.specs.declared.cells.Test.TheVariants.{AtLeast}
-use Rattle.monomials.specs.declared.cells.Combine.TheVariants.{Difference}
-use Rattle.monomials.specs.declared.refusal.Refusal.TheVariants.{Division}
-use Rattle.monomials.specs.Monomial.{write_checks}
-use Rattle.monomials.proofs.Checks.{max_width, max_exponent, write_width, tested_passed}
-use Rattle.monomials.proofs.Pairs.{all_divisor, zip_quotient}
+-- No exponent falls below 0 where the test passed, and the cells that `write_cells` leaves are the quotient. Rests on `divides_exponent` and `quotient_cells`.
+use Rattle.std.proofs.Common.{rules, arith, sym, ◌≡◌}
+use Rattle.laws.specs.Monomial.{quotient}
+use Rattle.laws.proofs.Monomial.{divides_exponent}
+use Rattle.monomials.proofs.Pairs.{quotient_cells}
 use Rattle.monomials.proofs.monomial.quotient.Goals as goal
 
-pub returns : goal.returns
-returns c =
-    let a = c.args.a.now in
-    let b = c.args.b.now in
-    let out = c.args.out.now in
-    let same = tested_passed (write_checks max_width a b out) (all_cells (passes_of max_exponent AtLeast) a b) (divides b a) Division (zip_cells (combined_of Difference) a b) (quotient a b) out (λ h. all_divisor max_exponent a b (write_width max_width a b out h)) (λ h d. zip_quotient a b (write_width max_width a b out h)) in
-    record { value = c.write_if.ensures.value ∙ same.0; out_after = c.write_if.ensures.out_after ∙ same.1 }
+pub write_cells-requires-clause-callable : goal.write_cells-requires-clause-callable
+write_cells-requires-clause-callable c k h κs ptr met range =
+    omega (arith, divides_exponent c.args.b.now c.args.a.now (sym c.if-not-all_at_most.ensures) k)
+
+pub returns-clause-out_after : goal.returns-clause-out_after
+returns-clause-out_after c =
+    let e : c.write_cells.new.out ≡ quotient c.args.a.now c.args.b.now = quotient_cells c.args.a.now c.args.b.now c.write_cells.new.out (search rules) (search rules) (λ k h. search (rules, c.write_cells.ensures k h)) in
+    search (rules, e)

@@ -1,22 +1,12 @@
--- `revlex_order` meets its contract: the variables from i on are equal. Rests on `revlex_differ`.
-use native.Mathlib.Omega.{arith}
-use mathlib.Core.Path.{◌≡◌}
-use Prim.Native.Nat.{◌+◌, ◌-◌}
-use Rattle.laws.proofs.Order.{revlex_same, revlex_differ}
+-- The chains compare the exponents from the last on. Rests on `cmp_revlex`.
+use mathlib.Core.Path.{◌≡◌, refl, ◌∙◌}
+use Rattle.std.proofs.lemmas.Iterator.Adapters.{YieldsList-from_rev_slice}
+use Rattle.std.proofs.lemmas.Iterator.Search.{cmp_from_yields_List}
+use Rattle.std.specs.Ordering.{nat_cmp}
+use Rattle.monomials.proofs.Pairs.{cmp_revlex}
 use Rattle.monomials.proofs.monomial.revlex_order.Goals as goal
-
-pub returns-then-a-i : goal.returns-then-a-i
-returns-then-a-i c =
-    let a = c.args.a.now in
-    let b = c.args.b.now in
-    let i = c.loop-i.i in
-    let e : i - 1 + 1 ≡ i = omega arith in
-    rw (c.compared.ensures, c.wide.ensures.0, c.wide-then-a-i.ensures.0, revlex_differ a b (i - 1) (omega arith) (omega arith) (rw e c.loop-i.invariant.1) c.if-a-i.true)
 
 pub returns : goal.returns
 returns c =
-    let a = c.args.a.now in
-    let b = c.args.b.now in
-    let i = c.loop-i.i in
-    let e : i ≡ 0 = omega arith in
-    rw (revlex_same a b (rw e at c.loop-i.invariant.1))
+    cmp_from_yields_List (λ x y. y ≡ x) c.rev-2.result nat_cmp c.cmp.result c.cmp.ensures.ran (YieldsList-from_rev_slice c.args.b.now (cc)) (λ it e. YieldsList-from_rev_slice c.args.a.now (cc)) (λ x y. refl)
+    ∙ cmp_revlex c.args.a.now c.args.b.now c.requires

@@ -1,7 +1,7 @@
-use Rattle.std.proofs.Common.{◌≡◌, ℕ, ◌+◌, ◌*◌, ◌^◌, ◌<◌, ◌≤◌, List, get_or, ap, ◌∙◌, suc-mul, zero-mul, add-one, arith, w64, Fits}
+use Rattle.std.proofs.Common.{◌≡◌, ℕ, ◌+◌, ◌*◌, ◌^◌, ◌<◌, ◌≤◌, List, get_or, refl, ap, ◌∙◌, suc-mul, zero-mul, add-one, arith, w64, Fits}
 use Rattle.laws.proofs.Branch.{summed_at, summed_end}
 use Rattle.laws.proofs.Rows.{Wrote, axis}
-use Rattle.numbers.proofs.ToLaws.{summed_none_more, summed_one}
+use Rattle.numbers.proofs.ToLaws.{summed_none_more, summed_one, wrote_within}
 use Rattle.numbers.proofs.branch.sum_branch.Goals as goal
 use Rattle.numbers.proofs.branch.sum_branch.Goals.{then-room-at, else-room-at}
 
@@ -38,15 +38,21 @@ loop-i-preserved c =
     let a = c.args in
     let l = c.loop-i in
     let p = c.if-room-at in
+    let from = l.i * a.n in
     elim p.branch [
       | then-room-at w ↦
-          let t = summed_one a.n a.m a.v a.e l.i l.k a.room.now l.room c.requires.0 l.invariant.3 c.loop-i-test.true c.requires.1 l.invariant.1 p.k p.room w.copy_cells.new.room w.if-room-at.true (at_place l.room _ _ _ a.n w.copy_cells.new.room l.invariant.2 w.copy_cells.ensures) w.room-is w.k-is in
-          (t.0, t.1, next_place _ _ _ _ _ _ w.to-is l.invariant.2 w.k-is, t.3)
+          let ys = w.copy_within.new.self in
+          let copied = wrote_within l.room ys from l.to (from + a.n) a.n refl w.copy_within.ensures.len w.copy_within.ensures.by_index in
+          let t = summed_one a.n a.m a.v a.e l.i l.k a.room.now l.room c.requires.0 l.invariant.2 c.loop-i-test.true c.requires.1 l.invariant.0 p.k p.room ys w.if-room-at.true (at_place l.room _ _ _ a.n ys l.invariant.1 copied) w.room-is w.k-is in
+          (t.0, next_place _ _ _ _ _ _ w.to-is l.invariant.1 w.k-is, t.1)
       | else-room-at w ↦
-          let t = summed_none_more a.n a.m a.v a.e l.i l.k a.room.now l.room c.requires.0 l.invariant.3 c.loop-i-test.true c.requires.1 l.invariant.1 p.k p.room w.if-room-at.false w.room-is w.k-is in
-          (t.0, t.1, w.to-is ∙ l.invariant.2 ∙ same_place _ a.n _ _ w.k-is, t.3)
+          let t = summed_none_more a.n a.m a.v a.e l.i l.k a.room.now l.room c.requires.0 l.invariant.2 c.loop-i-test.true c.requires.1 l.invariant.0 p.k p.room w.if-room-at.false w.room-is w.k-is in
+          (t.0, w.to-is ∙ l.invariant.1 ∙ same_place _ a.n _ _ w.k-is, t.1)
     ]
 
 pub returns : goal.returns
 returns c =
-    summed_end c.args.n c.args.m c.args.v c.args.e c.args.room.now c.loop-i.k c.loop-i.room c.put_power.new.room c.requires.0 c.requires.1 c.requires.2 (at_place c.loop-i.room (λ j. get_or (axis c.args.v c.args.e) j 0) _ _ c.args.n c.put_power.new.room c.loop-i.invariant.2 c.put_power.ensures) (summed_at c.args.n c.args.m c.args.v c.args.e c.args.room.now c.loop-i.i c.loop-i.k c.loop-i.room c.loop-i.invariant.0 c.loop-i-test.false c.loop-i.invariant.3)
+    let a = c.args in
+    let l = c.loop-i in
+    let put = at_place l.room (λ j. get_or (axis a.v a.e) j 0) _ _ a.n c.put_power.new.room l.invariant.1 c.put_power.ensures in
+    summed_end a.n a.m a.v a.e a.room.now l.k l.room c.put_power.new.room c.requires.0 c.requires.1 c.requires.2 put (summed_at a.n a.m a.v a.e a.room.now l.i l.k l.room (omega arith) c.loop-i-test.false l.invariant.2)

@@ -1,9 +1,6 @@
-use Rattle.std.proofs.Common.{◌≡◌, ◌+◌, ◌-◌, ◌*◌, ◌≤◌}
+use Rattle.std.proofs.Common.{◌≡◌, ◌+◌, ◌*◌, ◌≤◌}
 use Rattle.laws.proofs.Branch.{Summed}
 use Rattle.numbers.proofs.branch.sum_branch.Given as goal
 
 abbrev pub invariant-loop-i : goal.invariant-loop-i
-invariant-loop-i l = (l.i ≤ l.m) × (l.k ≤ l.i) × (l.to ≡ l.m * l.n + l.k * l.n) × Summed l.n l.m l.v l.e l.initial.room l.i l.k l.room
-
-abbrev pub decreases-loop-i : goal.decreases-loop-i
-decreases-loop-i l = l.m - l.i
+invariant-loop-i l = (l.k ≤ l.i) × (l.to ≡ l.m * l.n + l.k * l.n) × Summed l.n l.m l.v l.e l.initial.room l.i l.k l.room

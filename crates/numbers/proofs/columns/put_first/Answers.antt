@@ -1,13 +1,26 @@
-use Rattle.std.proofs.Common.{ℕ, ◌<◌, length, get_or, refl, ap, ◌∙◌, subst, arith}
+use Rattle.std.proofs.Common.{ℕ, List, subst, ◌<◌, length, get_or, ap, ◌∙◌, arith}
 use Rattle.laws.proofs.Columns.{joined_first, joined_none, single_none}
 use Rattle.laws.proofs.Rows.{Wrote, at_length}
-use Rattle.numbers.proofs.Steps.{zero_least}
+use Rattle.numbers.proofs.Runs.{wrote_whole}
 use Rattle.numbers.proofs.columns.put_first.Goals as goal
 
-pub returns-then-s-eq0 : goal.returns-then-s-eq0
-returns-then-s-eq0 c =
-    let a = c.args in (refl, zero_least a.s, joined_none (length a.us.now) a.s a.cells.now a.us.now c.requires.1, single_none (length a.us.now) a.s a.cells.now)
+pub returns-then-list-eq0 : goal.returns-then-list-eq0
+returns-then-list-eq0 c =
+    let a = c.args.list.now in
+    (c.requires.0, omega arith, joined_none a.n a.count a.cells.now c.args.us.now c.requires.1, single_none a.n a.count a.cells.now)
+
+pub copy_from_slice-requires : goal.copy_from_slice-requires
+copy_from_slice-requires c =
+    let a = c.args.list.now in
+    omega (arith, ap length c.row.ensures, at_length a.n a.count 0 a.cells.now (omega (arith, c.if-list-eq0.false)) a.in_cells)
 
 pub returns : goal.returns
 returns c =
-    let h : 0 < c.args.s = omega (arith, c.if-s-eq0.false) in let n = length c.args.us.now in let m = c.row.result.now in let w = subst (λ (k : ℕ). Wrote c.args.us.now (λ j. get_or m j 0) 0 k c.put_cells.new.room) (ap length c.row.ensures ∙ at_length n c.args.s 0 c.args.cells.now h c.requires.0) c.put_cells.ensures in let f = joined_first n c.args.s c.args.cells.now c.args.us.now c.put_cells.new.room m h c.row.ensures c.requires.1 w in (w.len, h, f.0, f.1)
+    let a = c.args.list.now in
+    let h : 0 < a.count = omega (arith, c.if-list-eq0.false) in
+    let us = c.args.us.now in
+    let m = c.row.result.now in
+    let new = c.copy_from_slice.new.self in
+    let e = c.requires.0 in
+    let w = wrote_whole us new (λ j. get_or m j 0) c.copy_from_slice.ensures.len (λ j l. ap (λ (k : List ℕ). get_or k j 0) c.copy_from_slice.ensures.after) in
+    let f = joined_first a.n a.count a.cells.now us new m h c.row.ensures c.requires.1 (subst (λ (k : ℕ). Wrote us (λ j. get_or m j 0) 0 k new) e w) in (w.len ∙ e, h, f.0, f.1)

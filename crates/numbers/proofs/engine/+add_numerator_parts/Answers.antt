@@ -48,16 +48,16 @@ add_numerator-parts-requires t c =
     let a = c.args in
     let left = c.loop-at.left in
     let same = c.loop-at.invariant in
-    let b = c.regroup-b.result in
-    let less = c.regroup-b.ensures.less in
-    let found = c.regroup-b.ensures.found c.if-b-gt0.true in
+    let b = c.in-Some-regroup.b in
+    let found = c.in-Some-regroup.ensures.found in
+    let less = le_of_lt found.2 in
     let enough = room_parts a.n a.m left b (length a.room.now) same.0 less c.requires.n_in_bounds.0 in (
       parts_falls a.m left b t c.decreases same.0 less,
       (
         (
-          le_trans enough (le_of_eq (sym (c.regroup-b.ensures.len ∙ same.1))),
+          le_trans enough (le_of_eq (sym (c.regroup.ensures.same.len ∙ same.1))),
           c.requires.n_in_bounds.1,
-          c.if-b-gt0.true,
+          c.in-Some-regroup.ensures.some,
           rest_there left b found.2,
           next_within a.level 16 found.0,
         ),
@@ -68,25 +68,25 @@ add_numerator-parts-requires t c =
       ),
     )
 
-pub add_numerator-returns-then-b-gt0 : goal.add_numerator-returns-then-b-gt0
-add_numerator-returns-then-b-gt0 t c =
+pub add_numerator-returns-in-Some-regroup : goal.add_numerator-returns-in-Some-regroup
+add_numerator-returns-in-Some-regroup t c =
     let a = c.args in
     let l = c.loop-at in
-    let ys = c.regroup-b.new.room in
-    let regrouped = running_same a.seed.now _ a.out.now a.n l.left l.left l.at l.room ys l.out c.regroup-b.ensures.same l.invariant.4 in
+    let ys = c.regroup.new.room in
+    let regrouped = running_same a.seed.now _ a.out.now a.n l.left l.left l.at l.room ys l.out c.regroup.ensures.same.same l.invariant.4 in
     let added = c.parts.ensures.added_to in
-    let whole = subst (λ (k : ℕ). AddedTo (term a.seed.now l.at a.n k ys) l.out c.parts.new.out) (rest_sum l.left c.regroup-b.result c.regroup-b.ensures.less) added in
+    let whole = subst (λ (k : ℕ). AddedTo (term a.seed.now l.at a.n k ys) l.out c.parts.new.out) (rest_sum l.left c.in-Some-regroup.b (le_of_lt c.in-Some-regroup.ensures.found.2)) added in
     let zeros = c.parts.ensures.scratch_len_unchanged in
     record {
       added_to = running_leaf _ a.out.now _ l.out c.parts.new.out whole regrouped;
       scratch_len_unchanged = (zeros.0 ∙ l.invariant.2, zeros.1);
     }
 
-pub add_numerator-returns-then-p-lt2 : goal.add_numerator-returns-then-p-lt2
-add_numerator-returns-then-p-lt2 t c =
+pub add_numerator-returns-in_default-choose : goal.add_numerator-returns-in_default-choose
+add_numerator-returns-in_default-choose t c =
     let a = c.args in
     let l = c.loop-at in
-    let regrouped = running_same a.seed.now _ a.out.now a.n l.left l.left l.at l.room c.regroup-b.new.room l.out c.regroup-b.ensures.same l.invariant.4 in
+    let regrouped = running_same a.seed.now _ a.out.now a.n l.left l.left l.at l.room c.regroup.new.room l.out c.regroup.ensures.same.same l.invariant.4 in
     let zeros = c.leaf.ensures.scratch_len_unchanged in
     record {
       added_to = running_leaf _ a.out.now _ l.out c.leaf.new.out c.leaf.ensures.added_to regrouped;
@@ -97,11 +97,11 @@ pub add_numerator-sum_branch-k-requires : goal.add_numerator-sum_branch-k-requir
 add_numerator-sum_branch-k-requires t c =
     let a = c.args in
     let left = c.loop-at.left in
-    let p = c.choose-p.result in
-    let shared = c.choose-p.ensures.shared c.if-p-lt2.false in
-    let two = le_trans shared.2 (above_most a.n p.v p.e c.regroup-b.new.room left) in
+    let p = c.in-Some-choose.p in
+    let shared = c.in-Some-choose.ensures in
+    let two = le_trans shared.2 (above_most a.n p.v p.e c.regroup.new.room left) in
     let enough = room_two a.n a.m left (length a.room.now) c.loop-at.invariant.0 two c.requires.n_in_bounds.0 in
-    (le_trans enough (le_of_eq (sym (c.regroup-b.ensures.len ∙ c.loop-at.invariant.1))), shared.0, shared.2)
+    (le_trans enough (le_of_eq (sym (c.regroup.ensures.same.len ∙ c.loop-at.invariant.1))), shared.0, shared.2)
 
 pub add_numerator-add_numerator-requires : goal.add_numerator-add_numerator-requires
 add_numerator-add_numerator-requires t c =
@@ -112,7 +112,7 @@ add_numerator-add_numerator-requires t c =
     let less = c.sum_branch-k.ensures.less in
     let ys = c.sum_branch-k.new.room in
     let enough = room_rest a.n a.m left k (length a.room.now) same.0 less c.requires.n_in_bounds.0 in
-    let as_long = sym (c.sum_branch-k.ensures.len ∙ (c.regroup-b.ensures.len ∙ same.1)) in (
+    let as_long = sym (c.sum_branch-k.ensures.len ∙ (c.regroup.ensures.same.len ∙ same.1)) in (
       branch_falls a.m left k t c.decreases same.0 less,
       (
         (part_enough (left * a.n) (k * k * a.n) ys (le_trans enough (le_of_eq as_long)), c.requires.n_in_bounds.1, c.requires.n_in_bounds.2),
@@ -126,24 +126,24 @@ add_numerator-colon-left-requires t c =
     let left = c.loop-at.left in
     let same = c.loop-at.invariant in
     let back = put_length (left * a.n) c.sum_branch-k.new.room c.add_numerator.new.room c.add_numerator.auto.room in
-    let as_long = back ∙ (c.sum_branch-k.ensures.len ∙ (c.regroup-b.ensures.len ∙ same.1)) in
+    let as_long = back ∙ (c.sum_branch-k.ensures.len ∙ (c.regroup.ensures.same.len ∙ same.1)) in
     let enough = room_one a.n a.m left (length a.room.now) same.0 c.requires.n_in_bounds.0 in
-    (le_trans enough (le_of_eq (sym as_long)), (c.choose-p.ensures.shared c.if-p-lt2.false).0)
+    (le_trans enough (le_of_eq (sym as_long)), c.in-Some-choose.ensures.0)
 
 pub add_numerator-loop-at-preserved : goal.add_numerator-loop-at-preserved
 add_numerator-loop-at-preserved t c =
     let a = c.args in
     let l = c.loop-at in
     let same = l.invariant in
-    let p = c.choose-p.result in
-    let xs = c.regroup-b.new.room in
+    let p = c.in-Some-choose.p in
+    let xs = c.regroup.new.room in
     let ys = c.sum_branch-k.new.room in
     let zs = c.add_numerator.new.room in
-    let before = c.sum_branch-k.ensures.len ∙ (c.regroup-b.ensures.len ∙ same.1) in
+    let before = c.sum_branch-k.ensures.len ∙ (c.regroup.ensures.same.len ∙ same.1) in
     let enough = room_one a.n a.m l.left (length a.room.now) same.0 c.requires.n_in_bounds.0 in
     let step = turn a.seed.now a.n l.left p.v p.e l.at c.sum_branch-k.result c.colon-left.result xs ys zs c.colon-left.new.room
-    (c.choose-p.ensures.shared c.if-p-lt2.false).0 (le_trans enough (le_of_eq (sym before))) c.sum_branch-k.ensures c.add_numerator.auto.room c.colon-left.ensures in
-    let regrouped = running_same a.seed.now _ a.out.now a.n l.left l.left l.at l.room xs l.out c.regroup-b.ensures.same same.4 in (
+    c.in-Some-choose.ensures.0 (le_trans enough (le_of_eq (sym before))) c.sum_branch-k.ensures c.add_numerator.auto.room c.colon-left.ensures in
+    let regrouped = running_same a.seed.now _ a.out.now a.n l.left l.left l.at l.room xs l.out c.regroup.ensures.same.same same.4 in (
       le_trans c.colon-left.ensures.less same.0,
       c.colon-left.ensures.len ∙ put_length (l.left * a.n) ys zs c.add_numerator.auto.room ∙ before,
       c.add_numerator.ensures.scratch_len_unchanged.0 ∙ same.2,

@@ -1,4 +1,4 @@
-use Rattle.std.proofs.Common.{◌≡◌, ◌≤◌, [], length}
+use Rattle.std.proofs.Common.{◌≡◌, ◌≤◌, min, [], length}
 use Rattle.laws.proofs.Added.{Running}
 use Rattle.laws.proofs.Leaf.{by}
 use Rattle.laws.proofs.Rows.{rows}
@@ -11,8 +11,5 @@ decreases-few l = l.m
 
 abbrev pub invariant-loop-left : goal.invariant-loop-left
 invariant-loop-left l =
-    (l.left ≤ l.m) × (length l.room ≡ length l.initial.room)
+    (min l.m 3 ≤ l.left) × (length l.room ≡ length l.initial.room)
     × Running (shifted l.shift (λ k. by l.neg (seeded (coefficient l.seed) [] (rows l.n l.m l.initial.room) k))) l.initial.out (shifted l.shift (λ k. by l.neg (seeded (coefficient l.seed) [] (rows l.n l.left l.room) k))) l.out
-
-abbrev pub decreases-loop-left : goal.decreases-loop-left
-decreases-loop-left l = l.left

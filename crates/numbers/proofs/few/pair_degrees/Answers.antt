@@ -1,13 +1,11 @@
-use Rattle.std.proofs.Common.{length, get_or, sym, refl, le_trans, le_of_eq, arith}
-use Rattle.laws.proofs.Monomial.{length_quotient}
-use Rattle.numbers.proofs.Steps.{next_within}
-use Rattle.numbers.proofs.Tally.{tally_all, tally_next, tally_quotient}
+use Rattle.std.proofs.Common.{get_or, refl, arith}
+use Rattle.numbers.proofs.Tally.{tallies_all, tallies_next}
 use Rattle.numbers.proofs.few.pair_degrees.Goals as goal
 
 pub loop-i-preserved : goal.loop-i-preserved
 loop-i-preserved c =
-    let h = c.loop-i-test.true in (next_within c.loop-i.i (length c.args.a.now) h, tally_next c.loop-i.invariant.1 (get_or c.args.a.now c.loop-i.i 0) h refl (omega (arith, c.shared_slice_known-in-loop-i-1.given c.loop-i.i)), tally_next c.loop-i.invariant.2 (get_or c.args.b.now c.loop-i.i 0) (le_trans h (le_of_eq c.requires.0)) refl (omega (arith, c.shared_slice_known-in-loop-i-2-1.given c.loop-i.i)), tally_quotient c.args.a.now c.args.b.now c.loop-i.invariant.3 c.less.result h c.less.ensures (omega (arith, c.less.type_inv)))
+    let i = c.loop-i.i in
+    tallies_next c.loop-i.invariant c.requires.0 (get_or c.args.a.now i 0) (get_or c.args.b.now i 0) c.add.new.self (omega arith) refl refl (omega arith) (omega arith) c.add.ensures
 
 pub returns : goal.returns
-returns c =
-    let n = length c.args.a.now in let h = c.loop-i-test.false in (tally_all c.loop-i.invariant.1 n h c.loop-i.invariant.0 c.requires.1, tally_all c.loop-i.invariant.2 n (le_trans (le_of_eq (sym c.requires.0)) h) c.loop-i.invariant.0 c.requires.1, tally_all c.loop-i.invariant.3 n (le_trans (le_of_eq (length_quotient c.args.a.now c.args.b.now)) h) c.loop-i.invariant.0 c.requires.1)
+returns c = tallies_all c.loop-i.invariant c.requires.0 c.loop-i-test.false (omega arith) c.requires.1

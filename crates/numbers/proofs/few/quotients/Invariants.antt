@@ -1,9 +1,6 @@
-use Rattle.std.proofs.Common.{◌-◌, ◌≤◌, false}
+use Rattle.std.proofs.Common.{false}
 use Rattle.laws.proofs.Few.{Quotients}
 use Rattle.numbers.proofs.few.quotients.Given as goal
 
 abbrev pub invariant-loop-i : goal.invariant-loop-i
-invariant-loop-i l = (l.i ≤ l.k) × Quotients l.n l.k l.initial.room l.i false l.room
-
-abbrev pub decreases-loop-i : goal.decreases-loop-i
-decreases-loop-i l = l.k - l.i
+invariant-loop-i l = Quotients l.n l.k l.initial.room l.i false l.room

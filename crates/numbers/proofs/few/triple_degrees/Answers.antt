@@ -1,21 +1,33 @@
-use Rattle.std.proofs.Common.{◌-◌, length, get_or, sym, refl, ◌∙◌, ap₂, le_trans, le_of_eq, arith}
-use Rattle.laws.proofs.Few.{quotient_cell}
+use Rattle.std.proofs.Common.{◌≡◌, get_or, length, refl, arith}
 use Rattle.laws.proofs.Monomial.{length_quotient}
 use Rattle.laws.specs.Monomial.{quotient}
-use Rattle.numbers.proofs.Steps.{next_within}
-use Rattle.numbers.proofs.Tally.{tally_all, tally_next, tally_quotient}
+use Rattle.numbers.proofs.Tally.{quotient_at, tallies_all, tallies_next, tally_all, tally_next}
 use Rattle.numbers.proofs.few.triple_degrees.Goals as goal
 
 pub loop-i-preserved : goal.loop-i-preserved
 loop-i-preserved c =
-    let h = c.loop-i-test.true in (next_within c.loop-i.i (length c.args.a.now) h, tally_next c.loop-i.invariant.1 (get_or c.args.a.now c.loop-i.i 0) h refl (omega (arith, c.shared_slice_known-in-loop-i-1.given c.loop-i.i)), tally_next c.loop-i.invariant.2 (get_or c.args.b.now c.loop-i.i 0) (le_trans h (le_of_eq c.requires.0)) refl (omega (arith, c.shared_slice_known-in-loop-i-2-1.given c.loop-i.i)), tally_quotient c.args.a.now c.args.b.now c.loop-i.invariant.3 c.less.result h c.less.ensures (omega (arith, c.less.type_inv)), tally_next c.loop-i.invariant.4 (get_or c.args.c.now c.loop-i.i 0) (le_trans h (le_of_eq c.requires.1)) refl (omega (arith, c.shared_slice_known-in-loop-i-3-1.given c.loop-i.i)), tally_quotient c.args.a.now c.args.c.now c.loop-i.invariant.5 c.less-p.result h c.less-p.ensures (omega (arith, c.less-p.type_inv)), tally_quotient c.args.b.now c.args.c.now c.loop-i.invariant.6 c.less-q.result (le_trans h (le_of_eq c.requires.0)) c.less-q.ensures (omega (arith, c.less-q.type_inv)), tally_quotient (quotient c.args.a.now c.args.c.now) (quotient c.args.b.now c.args.c.now) c.loop-i.invariant.7 c.less-in-loop-i.result (le_trans h (le_of_eq (sym (length_quotient c.args.a.now c.args.c.now)))) (c.less-in-loop-i.ensures ∙ ap₂ ◌-◌ (c.less-p.ensures ∙ sym (quotient_cell c.args.a.now c.args.c.now c.loop-i.i)) (c.less-q.ensures ∙ sym (quotient_cell c.args.b.now c.args.c.now c.loop-i.i))) (omega (arith, c.less-in-loop-i.type_inv)))
+    let i = c.loop-i.i in
+    let a = c.args in
+    let t = c.loop-i.invariant in
+    let x = get_or a.a.now i 0 in
+    let y = get_or a.b.now i 0 in
+    let z = get_or a.c.now i 0 in
+    let e : length (quotient a.a.now a.c.now) ≡ length (quotient a.b.now a.c.now) = omega (arith, length_quotient a.a.now a.c.now, length_quotient a.b.now a.c.now) in (
+      tallies_next t.0 c.requires.0 x y c.add.new.self (omega arith) refl refl (omega arith) (omega arith) c.add.ensures,
+      tally_next t.1 z (omega arith) refl (omega arith),
+      tallies_next t.2 e c.saturating_sub-p.result c.saturating_sub-q.result c.add-in-loop-i.new.self (omega (arith, length_quotient a.a.now a.c.now))
+          (omega (arith, quotient_at a.a.now a.c.now i x z refl refl)) (omega (arith, quotient_at a.b.now a.c.now i y z refl refl)) (omega arith) (omega arith) c.add-in-loop-i.ensures,
+    )
 
 pub returns : goal.returns
 returns c =
-    let n = length c.args.a.now in
-    let h = c.loop-i-test.false in
+    let a = c.args in
+    let t = c.loop-i.invariant in
+    let e : length (quotient a.a.now a.c.now) ≡ length (quotient a.b.now a.c.now) = omega (arith, length_quotient a.a.now a.c.now, length_quotient a.b.now a.c.now) in
     record {
-      listed = (tally_all c.loop-i.invariant.1 n h c.loop-i.invariant.0 c.requires.2, tally_all c.loop-i.invariant.2 n (le_trans (le_of_eq (sym c.requires.0)) h) c.loop-i.invariant.0 c.requires.2, tally_all c.loop-i.invariant.3 n (le_trans (le_of_eq (length_quotient c.args.a.now c.args.b.now)) h) c.loop-i.invariant.0 c.requires.2, tally_all c.loop-i.invariant.4 n (le_trans (le_of_eq (sym c.requires.1)) h) c.loop-i.invariant.0 c.requires.2);
-      quotients = (tally_all c.loop-i.invariant.5 n (le_trans (le_of_eq (length_quotient c.args.a.now c.args.c.now)) h) c.loop-i.invariant.0 c.requires.2, tally_all c.loop-i.invariant.6 n (le_trans (le_of_eq (length_quotient c.args.b.now c.args.c.now)) (le_trans (le_of_eq (sym c.requires.0)) h)) c.loop-i.invariant.0 c.requires.2);
-      quotient_of_quotients = tally_all c.loop-i.invariant.7 n (le_trans (le_of_eq (length_quotient (quotient c.args.a.now c.args.c.now) (quotient c.args.b.now c.args.c.now))) (le_trans (le_of_eq (length_quotient c.args.a.now c.args.c.now)) h)) c.loop-i.invariant.0 c.requires.2;
+      listed = (
+        tallies_all t.0 c.requires.0 c.loop-i-test.false (omega arith) c.requires.2,
+        tally_all t.1 (length a.a.now) (omega arith) (omega arith) c.requires.2,
+      );
+      quotients = tallies_all t.2 e (omega (arith, length_quotient a.a.now a.c.now)) (omega (arith, length_quotient a.a.now a.c.now)) (omega (arith, length_quotient a.a.now a.c.now));
     }

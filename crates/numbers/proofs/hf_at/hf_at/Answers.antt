@@ -1,7 +1,9 @@
-use Rattle.std.proofs.Common.{◌≡◌, ℕ, ◌+◌, ◌*◌, ◌≤◌, List, ◌++◌, length, take, drop, replicate, sym, ap, ◌∙◌, le_trans, le_of_eq, arith, length-take-le}
+use Rattle.std.proofs.Common.{◌≡◌, ℕ, ◌+◌, ◌*◌, ◌≤◌, List, ◌++◌, length, take, drop, replicate, sym, refl, ap, ◌∙◌, le_trans, le_of_eq, arith, length-take-le}
 use lib.Seq.{length_front}
 use Rattle.numbers.proofs.HilbertCall.{gives, refuses_value}
 use Rattle.numbers.proofs.KeptSums.{sum_is, sum_large}
+use Rattle.std.specs.Prelude.{Err}
+use Rattle.monomials.specs.declared.refusal.Refusal.TheVariants.{Value}
 use Rattle.numbers.proofs.hf_at.hf_at.Goals as goal
 
 half_asked : (d : ℕ) → 2 * (d + 1) ≤ 4 * (d + 1)
@@ -22,7 +24,7 @@ pub returns-then-is_large : goal.returns-then-is_large
 returns-then-is_large c =
     let a = c.args in
     let s = sum_large a.n a.coeffs.now a.d c.prefix_sum-size.result c.prefix_sum-size.ensures.d_bound c.prefix_sum-size.ensures.result_value in
-    let o = refuses_value 255 65536 a.n a.coeffs.now a.d a.sums.now c.if-n-gt-MAX_WIDTH.false c.if-d-gt-MAX_DEGREE.false c.if-sums-asked.false c.prefix_sum-size.new.words c.prefix_sum-value.new.words (2 * (a.d + 1)) (half_asked a.d) (c.prefix_sum-size.auto.words ∙ half_long a.sums.now a.d c.if-sums-asked.false) (c.prefix_sum-value.ensures.words_after ∙ ap (λ (z : ℕ). replicate z 0) (asked_long a.sums.now c.prefix_sum-size.new.words a.d c.if-sums-asked.false c.prefix_sum-size.auto.words)) c.refused-then-is_large.result (sym s ∙ rw c.is_large.ensures at c.if-is_large.true) c.refused-then-is_large.ensures in
+    let o = refuses_value 255 65536 a.n a.coeffs.now a.d a.sums.now c.if-n-gt-MAX_WIDTH.false c.if-d-gt-MAX_DEGREE.false c.if-sums-asked.false c.prefix_sum-size.new.words c.prefix_sum-value.new.words (2 * (a.d + 1)) (half_asked a.d) (c.prefix_sum-size.auto.words ∙ half_long a.sums.now a.d c.if-sums-asked.false) (c.prefix_sum-value.ensures.words_after ∙ ap (λ (z : ℕ). replicate z 0) (asked_long a.sums.now c.prefix_sum-size.new.words a.d c.if-sums-asked.false c.prefix_sum-size.auto.words)) (Err Value) (sym s ∙ rw c.is_large.ensures at c.if-is_large.true) refl in
     record { value = o.0; sums_after = o.1 }
 
 pub returns : goal.returns

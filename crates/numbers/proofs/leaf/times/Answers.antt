@@ -12,8 +12,8 @@ pub loop-k-preserved : goal.loop-k-preserved
 loop-k-preserved c =
     let l = c.loop-k in
     let e = difference (get_or l.c (l.k - 1) (pos 0)) (get_or l.c (l.k - 1 - c.args.a) (pos 0)) c.wrapping_sub.result (sfits_of c.x-1.given) (sfits_of c.y-1.given) c.wrapping_sub.ensures in
-    (omega arith, timing_more _ _ _ _ _ _ (omega arith) (omega arith) (omega arith) (to_z-of_z {w = w64} (sfits_of c.wrapping_sub.type_inv) ∙ e) c.loop-k.invariant.1)
+    timing_more _ _ _ _ _ _ (omega arith) (omega arith) (omega arith) (to_z-of_z {w = w64} (sfits_of c.wrapping_sub.type_inv) ∙ e) c.loop-k.invariant
 
 pub returns : goal.returns
 returns c =
-    timing_end _ _ _ _ (omega arith) c.loop-k.invariant.1
+    timing_end _ _ _ _ c.loop-k-test.false c.loop-k.invariant

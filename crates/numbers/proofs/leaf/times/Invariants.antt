@@ -1,9 +1,5 @@
-use Rattle.std.proofs.Common.{◌≤◌, length}
 use Rattle.laws.proofs.Added.{Timing}
 use Rattle.numbers.proofs.leaf.times.Given as goal
 
 abbrev pub invariant-loop-k : goal.invariant-loop-k
-invariant-loop-k l = (l.k ≤ length l.initial.c) × Timing l.a l.initial.c l.k l.c
-
-abbrev pub decreases-loop-k : goal.decreases-loop-k
-decreases-loop-k l = l.k
+invariant-loop-k l = Timing l.a l.initial.c l.k l.c

@@ -1,9 +1,5 @@
-use Rattle.std.proofs.Common.{◌-◌, ◌≤◌}
 use Rattle.laws.proofs.Pass.{Divided}
 use Rattle.numbers.proofs.minimal.colon.Given as goal
 
 abbrev pub invariant-loop-i : goal.invariant-loop-i
-invariant-loop-i l = (l.i ≤ l.m) × Divided l.n l.m l.v l.e l.initial.room l.i l.room
-
-abbrev pub decreases-loop-i : goal.decreases-loop-i
-decreases-loop-i l = l.m - l.i
+invariant-loop-i l = Divided l.n l.m l.v l.e l.initial.room l.i l.room

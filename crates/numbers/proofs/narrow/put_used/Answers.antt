@@ -1,8 +1,7 @@
-use Rattle.std.proofs.Common.{◌≡◌, ℕ, ◌+◌, ◌*◌, ◌<◌, ◌≤◌, ◌∙◌, subst, mul-le-mul_left, arith}
-use Rattle.laws.proofs.Columns.{Joined}
+use Rattle.std.proofs.Common.{◌≡◌, ℕ, ◌+◌, ◌*◌, ◌<◌, ◌≤◌, subst, ap, get_or, get_or-take, length-take-le, mul-le-mul_left, arith}
 use Rattle.laws.proofs.Narrow.{Kept, kept_more, narrowed_kept}
 use Rattle.laws.proofs.Rows.{row_end}
-use Rattle.numbers.proofs.Steps.{loop_ended, next_within}
+use Rattle.numbers.proofs.Runs.{wrote_as}
 use Rattle.numbers.proofs.narrow.put_used.Goals as goal
 
 kept_row : (i s w a n L : ℕ) → i < s → w ≤ a → a ≡ n → s * n ≤ L → i * w + w ≤ L
@@ -10,8 +9,16 @@ kept_row i s w a n L h g e l = let f : w ≤ n = omega arith in omega (arith, ro
 
 pub loop-i-preserved : goal.loop-i-preserved
 loop-i-preserved c =
-    (next_within c.loop-i.i c.args.s c.loop-i-test.true, kept_more c.args.n c.places-w.result c.places-w.new.ps c.args.cells.now c.args.room.now c.loop-i.i c.loop-i.room c.pick.new.room c.row.result.now c.row.ensures c.pick.ensures c.loop-i.invariant.1)
+    let w = c.places-w.result in
+    let ps = c.places-w.new.ps in
+    let m = c.row.result.now in
+    let e = length-take-le w ps (omega arith) in
+    let k = wrote_as (λ j. get_or m (get_or ps j 0) 0) w e (λ j l. ap (λ (i : ℕ). get_or m i 0) (get_or-take w ps j 0 l)) c.pick.ensures in
+    kept_more c.args.list.now.n w ps c.args.list.now.cells.now c.args.room.now c.loop-i.i c.loop-i.room c.pick.new.room m c.row.ensures k c.loop-i.invariant
 
 pub returns : goal.returns
 returns c =
-    narrowed_kept c.args.n c.args.s c.join_all.new.us c.args.cells.now c.args.room.now c.places-w.result c.loop-i.room c.places-w.new.ps (c.join_all.ensures.us_len_unchanged.0 ∙ c.requires.2) c.requires.0 c.requires.1 (subst (λ (k : ℕ). Joined k c.args.s c.args.cells.now c.args.s c.join_all.new.us) c.requires.2 c.join_all.ensures.us_len_unchanged.1) c.places-w.ensures.1 (subst (λ (k : ℕ). Kept c.args.n c.places-w.result c.places-w.new.ps c.args.cells.now c.args.room.now k c.loop-i.room) (loop_ended c.loop-i.i c.args.s c.loop-i.invariant.0 c.loop-i-test.false) c.loop-i.invariant.1)
+    let a = c.args.list.now in
+    let j = c.join_all.ensures.joined in
+    let k = subst (λ (k : ℕ). Kept a.n c.places-w.result c.places-w.new.ps a.cells.now c.args.room.now k c.loop-i.room) (omega arith) c.loop-i.invariant in
+    narrowed_kept a.n a.count c.join_all.new.us a.cells.now c.args.room.now c.places-w.result c.loop-i.room c.places-w.new.ps j.0 c.requires.fits.0 c.requires.fits.1 j.1 c.places-w.ensures.1 k

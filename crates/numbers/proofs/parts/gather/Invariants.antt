@@ -1,9 +1,6 @@
-use Rattle.std.proofs.Common.{◌-◌, ◌≤◌}
+use Rattle.std.proofs.Common.{◌≤◌}
 use Rattle.laws.proofs.Pass.{Thinned}
 use Rattle.numbers.proofs.parts.gather.Given as goal
 
 abbrev pub invariant-loop-i : goal.invariant-loop-i
-invariant-loop-i l = (l.i ≤ l.m) × (l.k ≤ l.i) × Thinned l.n l.m l.initial.room l.m l.room
-
-abbrev pub decreases-loop-i : goal.decreases-loop-i
-decreases-loop-i l = l.m - l.i
+invariant-loop-i l = (l.k ≤ l.i) × Thinned l.n l.m l.initial.room l.m l.room

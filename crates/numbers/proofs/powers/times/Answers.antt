@@ -1,8 +1,8 @@
-use Rattle.numbers.proofs.LeastPowers.{times_exact, times_passed}
+use Rattle.numbers.proofs.LeastPowers.{times_some, times_none}
 use Rattle.numbers.proofs.powers.times.Goals as goal
 
-pub returns-in-Exact : goal.returns-in-Exact
-returns-in-Exact c = λ q e. times_exact q c.args.x c.args.product e c.in-Exact.w c.times.result c.in-Exact.is c.times.ensures
+pub returns-in-Some : goal.returns-in-Some
+returns-in-Some c = λ q e. times_some q c.args.x c.args.product e c.in-Some.w c.times.result c.in-Some.is c.times.ensures
 
-pub returns-in-Passed : goal.returns-in-Passed
-returns-in-Passed c = λ q e. times_passed q c.args.x c.args.product e c.requires c.in-Passed.is
+pub returns-in-None : goal.returns-in-None
+returns-in-None c = λ q e. times_none q c.args.x c.args.product e c.requires c.in-None.is

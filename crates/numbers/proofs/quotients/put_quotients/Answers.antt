@@ -1,13 +1,15 @@
-use Rattle.std.proofs.Common.{◌-◌, ◌%◌, length, get_or}
+use Rattle.std.proofs.Common.{◌-◌, ◌%◌, length, get_or, inl, inr, arith}
 use Rattle.laws.proofs.Rows.{wrote_more}
-use Rattle.numbers.proofs.QuotientCells.{cell_less, place_next, place_start}
-use Rattle.numbers.proofs.Steps.{next_within, offset_in}
+use Rattle.numbers.proofs.QuotientCells.{cell_less, place_in, turned}
 use Rattle.numbers.proofs.quotients.put_quotients.Goals as goal
-
-pub loop-i-preserved-then-v-g : goal.loop-i-preserved-then-v-g
-loop-i-preserved-then-v-g c =
-    (next_within c.loop-i.i (length c.args.cells.now) c.loop-i-test.true, place_start c.args.cells.now c.args.g.now c.requires.1 c.loop-i.i c.loop-i.v c.loop-i-test.true c.loop-i.invariant.1 c.if-v-g.true, wrote_more c.args.room.now (λ j. get_or c.args.cells.now j 0 - get_or c.args.g.now (j % length c.args.g.now) 0) c.args.to c.loop-i.i c.less.result c.loop-i.room (offset_in c.args.to c.loop-i.i (length c.args.cells.now) (length c.args.room.now) c.loop-i-test.true c.requires.0) (cell_less c.args.cells.now c.args.g.now c.requires.1 c.loop-i.i c.loop-i.v c.loop-i-test.true c.loop-i.invariant.1 c.less.result c.less.ensures) c.loop-i.invariant.2)
+use Rattle.numbers.proofs.quotients.put_quotients.Goals.{then-v-g, else-v-g}
 
 pub loop-i-preserved : goal.loop-i-preserved
 loop-i-preserved c =
-    (next_within c.loop-i.i (length c.args.cells.now) c.loop-i-test.true, place_next c.args.cells.now c.args.g.now c.requires.1 c.loop-i.i c.loop-i.v c.loop-i-test.true c.loop-i.invariant.1 c.if-v-g.false, wrote_more c.args.room.now (λ j. get_or c.args.cells.now j 0 - get_or c.args.g.now (j % length c.args.g.now) 0) c.args.to c.loop-i.i c.less.result c.loop-i.room (offset_in c.args.to c.loop-i.i (length c.args.cells.now) (length c.args.room.now) c.loop-i-test.true c.requires.0) (cell_less c.args.cells.now c.args.g.now c.requires.1 c.loop-i.i c.loop-i.v c.loop-i-test.true c.loop-i.invariant.1 c.less.result c.less.ensures) c.loop-i.invariant.2)
+    let a = c.args in
+    let l = c.loop-i in
+    let cells = a.cells.now in
+    let g = a.g.now in
+    let t = turned (length g) l.i l.v c.if-v-g.v (place_in cells g c.requires.1 l.i l.v c.loop-i-test.true l.invariant.0) l.invariant.0
+    (elim c.if-v-g.branch [ then-v-g w ↦ inl (w.if-v-g.true, w.v-is) | else-v-g w ↦ inr (w.if-v-g.false, w.v-is) ]) in
+    (t.1, wrote_more a.room.now (λ j. get_or cells j 0 - get_or g (j % length g) 0) a.to l.i c.saturating_sub.result l.room (omega arith) (cell_less cells g c.requires.1 l.i l.v c.loop-i-test.true l.invariant.0 c.saturating_sub.result c.saturating_sub.ensures) l.invariant.1)

@@ -1,7 +1,7 @@
-use Rattle.std.proofs.Common.{◌≡◌, ℕ, ◌+◌, ◌<◌, ◌≤◌, Bool, true, false, eqb, ◌≢◌, ◌⊎◌, List, length, get_or, set, sym, refl, ◌∙◌, subst, inl, inr, arith, length-set, get_or-set_other, get_or-set_same, eqb-true}
+use Rattle.std.proofs.Common.{◌≡◌, ℕ, ◌+◌, ◌<◌, ◌≤◌, Bool, true, false, eqb, ◌≢◌, ◌⊎◌, List, length, get_or, set, sym, refl, ◌∙◌, inl, inr, arith, length-set, get_or-set_other, get_or-set_same, eqb-true, rules}
 use borrow.Author.Tests.{eqb-false}
 use Rattle.laws.proofs.Rows.{Wrote, axis, axis_other, axis_same}
-use Rattle.numbers.proofs.Steps.{loop_ended}
+use Rattle.numbers.proofs.Runs.{wrote_part}
 use Rattle.numbers.proofs.rows.put_power.Goals as goal
 
 -- zeros, and e in place v of them
@@ -25,4 +25,7 @@ wrote_power xs ys to n v e h l w =
 
 pub returns : goal.returns
 returns c =
-    wrote_power c.args.room.now c.loop-i.room c.args.to c.args.n c.args.v c.args.e c.requires.0 c.requires.1 (subst (λ (j : ℕ). Wrote c.args.room.now (λ j. 0) c.args.to j c.loop-i.room) (loop_ended c.loop-i.i c.args.n c.loop-i.invariant.0 c.loop-i-test.false) c.loop-i.invariant.1)
+    let a = c.args in
+    let f = c.fill in
+    wrote_power a.room.now _ a.to a.n a.v a.e c.requires.0 c.requires.1
+    (wrote_part a.room.now (λ j. 0) a.to a.n _ f.new.self c.requires.0 (omega arith) (search rules) (search rules))

@@ -1,7 +1,16 @@
-use borrow.Author.Rules.{sfits_of}
-use Rattle.numbers.proofs.ToLaws.{word_difference}
+use Rattle.std.proofs.Common.{◌≡◌, ℕ, ℤ, ◌+◌, ◌-◌, ◌%◌, ◌^◌, ◌<◌, of_z, sym, arith, lit<, w64, SFits}
+use Rattle.laws.proofs.Word.{residue_lt, word_residue, wrap_sub}
 use Rattle.numbers.proofs.signed.wrapping_sub.Goals as goal
+
+bits_lt : (a : ℤ) → SFits w64 a → of_z w64 a < 2 ^ 64
+bits_lt a f = rw (word_residue w64 a f) (residue_lt (2 ^ 64) (lit< tt) a)
+
+difference : (p q : ℕ) → p < 2 ^ 64 → q < 2 ^ 64 → ((p + (2 ^ 64 - q)) % 2 ^ 64 + q) % 2 ^ 64 ≡ p
+difference p q h k = omega arith
 
 pub returns : goal.returns
 returns c =
-    word_difference c.args.a c.args.b c.from_bits.result c.to_bits.result c.to_bits-2.result c.wrapping_sub_u64.result c.ranges.a c.ranges.b (sfits_of c.from_bits.type_inv) c.to_bits.ensures c.to_bits-2.ensures c.from_bits.ensures c.wrapping_sub_u64.type_inv c.wrapping_sub_u64.ensures.value
+    let a = c.args.a in
+    let b = c.args.b in
+    sym (wrap_sub w64 a b ((of_z w64 a + (2 ^ 64 - of_z w64 b)) % 2 ^ 64) c.ranges.a c.ranges.b (omega arith)
+    (difference (of_z w64 a) (of_z w64 b) (bits_lt a c.ranges.a) (bits_lt b c.ranges.b)))

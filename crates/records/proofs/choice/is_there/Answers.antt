@@ -1,32 +1,20 @@
 -- `is_there` meets its contract: there is no such place, or the comparison decides.
-use lib.ListN.{get_or}
+use lib.ListN.{get_or, length}
+use mathlib.Core.Path.{◌∙◌}
+use borrow.Author.Tests.{le-ltb}
 use Rattle.laws.specs.Order.{degrevlex}
-use Rattle.monomials.specs.declared.monomial.Order.TheVariants.{Less, Equal, Greater}
-use Rattle.records.specs.Rows.{row}
-use Rattle.records.proofs.Cells.{row_within, ordered}
-use Rattle.records.proofs.Choosing.{place_below, rows_at_next}
+use Rattle.records.specs.Rows.{member}
+use Rattle.records.proofs.Cells.{equal_told}
+use Rattle.records.proofs.Choosing.{rows_at_next, rows_at_end}
 use Rattle.records.proofs.choice.is_there.Goals as goal
 
-pub compare_rows-order-requires-clause-n_in_bounds : goal.compare_rows-order-requires-clause-n_in_bounds
-compare_rows-order-requires-clause-n_in_bounds c =
-    let a = c.args in let q = c.requires.cells_len in
-    let below = place_below a.s a.m a.p a.places.now q.3 c.if-m-p.false q.1 in
-    (row_within a.n a.s a.i a.cells.now q.0 q.2, row_within a.n a.s (get_or a.places.now a.p 0) a.cells.now q.0 below)
+pub returns-then-p-places : goal.returns-then-p-places
+returns-then-p-places c =
+    let l = c.args.list.now in let ps = c.args.places.now in
+    c.eq.ensures
+    ∙ rw (rows_at_next l.width l.cells.now c.args.p ps c.if-p-places.true) (equal_told (degrevlex (member l c.args.i) (member l (get_or ps c.args.p 0))) c.compare.result c.compare.ensures)
 
-pub returns-in-Less : goal.returns-in-Less
-returns-in-Less c =
-    let a = c.args in let cells = a.cells.now in let k = get_or a.places.now a.p 0 in
-    let o = ordered (degrevlex (row a.n cells a.i) (row a.n cells k)) c.compare_rows-order.result Less c.compare_rows-order.ensures c.in-Less.is in
-    rw (rows_at_next a.n cells a.m a.p a.places.now c.if-m-p.false c.requires.cells_len.1, o)
-
-pub returns-in-Equal : goal.returns-in-Equal
-returns-in-Equal c =
-    let a = c.args in let cells = a.cells.now in let k = get_or a.places.now a.p 0 in
-    let o = ordered (degrevlex (row a.n cells a.i) (row a.n cells k)) c.compare_rows-order.result Equal c.compare_rows-order.ensures c.in-Equal.is in
-    rw (rows_at_next a.n cells a.m a.p a.places.now c.if-m-p.false c.requires.cells_len.1, o)
-
-pub returns-in-Greater : goal.returns-in-Greater
-returns-in-Greater c =
-    let a = c.args in let cells = a.cells.now in let k = get_or a.places.now a.p 0 in
-    let o = ordered (degrevlex (row a.n cells a.i) (row a.n cells k)) c.compare_rows-order.result Greater c.compare_rows-order.ensures c.in-Greater.is in
-    rw (rows_at_next a.n cells a.m a.p a.places.now c.if-m-p.false c.requires.cells_len.1, o)
+pub returns-else-p-places : goal.returns-else-p-places
+returns-else-p-places c =
+    let l = c.args.list.now in let ps = c.args.places.now in
+    rw (rows_at_end l.width l.cells.now c.args.p ps c.if-p-places.false) (le-ltb c.args.p (length ps) c.if-p-places.false)

@@ -6,9 +6,9 @@ use Rattle.records.proofs.host.answer_record.Goals as goal
 
 pub tell-requires : goal.tell-requires
 tell-requires c =
-    (rw c.dimension_of.ensures (top_fits 255 60 65536 c.args.rec.now (lit< tt)), omega arith)
+    record { top_fits = rw c.dimension_of.ensures (top_fits 255 60 65536 c.args.rec.now (lit< tt)); out_len = omega arith }
 
 pub returns : goal.returns
 returns c =
-    let t = told_is 255 60 65536 c.args.rec.now 26 c.args.out.now (omega arith) c.dimension_of.result c.tell.result c.tell.new.out c.dimension_of.ensures c.tell.ensures.value c.tell.ensures.out_after in
+    let t = told_is 255 60 65536 c.args.rec.now 26 c.args.out.now (omega arith) c.tell.result c.tell.new.out (rw c.dimension_of.ensures at c.tell.ensures.value) (rw c.dimension_of.ensures at c.tell.ensures.out_after) in
     record { value = t.0; out_after = t.1 }

@@ -1,9 +1,6 @@
-use Rattle.std.proofs.Common.{◌≡◌, ◌+◌, ◌-◌, ◌≤◌, length, drop}
+use Rattle.std.proofs.Common.{◌≡◌, ◌+◌, ◌≤◌, drop}
 use Rattle.vectors.specs.Asked.{pairs_in}
 use Rattle.vectors.proofs.asked.pairs.Given as goal
 
 abbrev pub invariant-loop-i : goal.invariant-loop-i
-invariant-loop-i l = (l.i ≤ length l.cells) × (l.e ≤ l.i) × (l.e + pairs_in l.gap (drop l.i l.cells) ≡ pairs_in l.gap l.cells)
-
-abbrev pub decreases-loop-i : goal.decreases-loop-i
-decreases-loop-i l = length l.cells - l.i
+invariant-loop-i l = (l.e ≤ l.i) × (l.e + pairs_in l.gap (drop l.i l.cells) ≡ pairs_in l.gap l.cells)

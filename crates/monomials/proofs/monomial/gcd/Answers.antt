@@ -1,0 +1,10 @@
+-- The cells that `write_cells` leaves are the gcd. Rests on `gcd_cells`.
+use Rattle.std.proofs.Common.{rules, ◌≡◌}
+use Rattle.laws.specs.Monomial.{gcd}
+use Rattle.monomials.proofs.Pairs.{gcd_cells}
+use Rattle.monomials.proofs.monomial.gcd.Goals as goal
+
+pub returns-clause-out_after : goal.returns-clause-out_after
+returns-clause-out_after c =
+    let e : c.write_cells.new.out ≡ gcd c.args.a.now c.args.b.now = gcd_cells c.args.a.now c.args.b.now c.write_cells.new.out (search rules) (search rules) (λ k h. search (rules, c.write_cells.ensures k h)) in
+    search (rules, e)

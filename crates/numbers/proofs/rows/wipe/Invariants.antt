@@ -1,8 +1,0 @@
-use Rattle.std.proofs.Common.{◌≡◌, ◌-◌, ◌≤◌, ◌++◌, length, drop, replicate}
-use Rattle.numbers.proofs.rows.wipe.Given as goal
-
-abbrev pub invariant-loop-i : goal.invariant-loop-i
-invariant-loop-i l = (l.i ≤ length l.initial.room) × (length l.room ≡ length l.initial.room) × (l.room ≡ replicate l.i 0 ++ drop l.i l.initial.room)
-
-abbrev pub decreases-loop-i : goal.decreases-loop-i
-decreases-loop-i l = length l.initial.room - l.i

@@ -1,6 +1,0 @@
--- `replay` ends: each turn starts a line later.
-use Rattle.std.proofs.Common.{◌-◌, length}
-use Rattle.replay_hf_at.proofs.replay.Given as goal
-
-abbrev pub decreases-loop-at : goal.decreases-loop-at
-decreases-loop-at l = length l.text - l.at
