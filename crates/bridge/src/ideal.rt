@@ -39,7 +39,7 @@ pub fn pt_place(rec: &[u8], k: u64, out: &mut [u8], values: &mut [u64; 4]) -> u8
         return number_of(Refusal::Output);
     }
     let part = records::ideal::place(rec, k as usize);
-    out[..part.len()].copy_from_slice(part);
+    copy_front(part, out);
     tell(
         records::ideal::check_place(rec, k as usize).and(Ok(part.len())),
         values,
@@ -53,4 +53,15 @@ pub fn pt_copy_record(rec: &[u8], cells: &mut [u16], values: &mut [u64; 4]) -> u
     ensures values_after { values.new ≡ values_in (of_copy (copy_answer MAX_COUNT rec.now cells.old)) values.old }
 {
     tell(records::ideal::copy_record(rec, cells), values)
+}
+
+// Copies the part to the front of the output.
+// A `for`: for `copy_from_slice` an archive for C needs `memmove` from outside.
+fn copy_front(part: &[u8], out: &mut [u8])
+    requires { length part.now ≤ length out.old }
+    ensures { out.new ≡ part.now ++ drop (length part.now) out.old }
+{
+    for (i, byte) in part.iter().enumerate() {
+        out[i] = *byte;
+    }
 }

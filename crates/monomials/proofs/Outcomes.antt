@@ -5,7 +5,7 @@
 use mathlib.Core.Path.{◌≡◌, refl, ap}
 use mathlib.Core.Option.{Option, none, some}
 use Rattle.std.proofs.Common.{ℕ, arith}
-use Rattle.std.specs.Prelude.{Result, Ok, Err}
+use Rattle.std.specs.Prelude.{Ok, Err}
 use Rattle.monomials.specs.Refusal.{answer}
 use Rattle.monomials.specs.declared.refusal.Refusal.{Refusal}
 

@@ -1,28 +1,22 @@
 -- What std's words on two lists are in the words of the crate laws.
 --   degree_sum                          a degree as a sum
---   all_divides, all_coprime, all_fits  tests of each pair of exponents, on equal widths
---   sum_fits                            what the last of them says of one pair
+--   all_coprime, all_fits               tests of each pair of exponents, the second on equal widths
+--   sum_fits                            what the second says of one pair
 --   product_cells, quotient_cells, lcm_cells, gcd_cells  a list that holds what is made of each pair, on equal widths
---   cmp_numbers, cmp_lex, cmp_revlex    the orders
+--   cmp_numbers                         how two numbers compare
 -- Assumes nothing.
-use mathlib.Core.Path.{◌≡◌, refl, sym, ap, ap₂, ◌∙◌}
+use mathlib.Core.Path.{◌≡◌, refl, sym, ap, ◌∙◌}
 use mathlib.Core.Bool.{Bool, true, ◌&&◌, ◌||◌}
-use mathlib.Core.List.{List, [], ◌∷◌, ◌++◌, reverse}
+use mathlib.Core.List.{List, [], ◌∷◌}
 use Prim.Native.Nat.{ℕ, zero, suc, ◌+◌, ◌-◌, ◌≤◌, ◌<◌, max, min, compare, Ordering}
 use native.Mathlib.Omega.{arith}
 use lib.Dec.{leb, eqb}
 use lib.ListN.{length, get_or}
 use Rattle.std.specs.List.{zip, list_all, sum_by}
-use Rattle.std.specs.Ordering.{nat_cmp, ordering_then}
-use Rattle.std.specs.declared.cmp.Ordering.{Ordering as Order}
-use Rattle.std.specs.declared.cmp.Ordering.TheVariants.{Less, Equal, Greater}
+use Rattle.std.specs.Ordering.{nat_cmp}
 use Rattle.std.specs.Cmp.{nat_cmp_is}
-use Rattle.std.specs.Cmp.Lexicographic.{slice_cmp}
-use Rattle.std.proofs.lemmas.Grind.{reverse_onto}
-use Rattle.std.proofs.lemmas.List.{length-reverse}
 use Rattle.std.proofs.lemmas.List.Sums.{sum_by-cons}
-use Rattle.laws.specs.Monomial.{degree, divides, product, quotient, lcm, gcd, coprime}
-use Rattle.laws.specs.Order.{or_else, lex, revlex}
+use Rattle.laws.specs.Monomial.{degree, product, quotient, lcm, gcd, coprime}
 use Rattle.laws.proofs.Monomial.{and_right, head_le, cons_eq}
 use Rattle.laws.proofs.Order.{Says, compare_says}
 use Rattle.monomials.specs.Monomial.{order_of, at_most}
@@ -32,11 +26,6 @@ degree_sum [] = refl
 degree_sum (x ∷ a) = sum_by-cons (λ x. x) x a ∙ ap (λ n. x + n) (degree_sum a)
 
 -- the tests
-
-pub all_divides : (a b : List ℕ) → length b ≡ length a → list_all (λ (p : ℕ × ℕ). leb p.0 p.1) (zip a b) ≡ divides a b
-all_divides [] b e = refl
-all_divides (x ∷ a) [] e = absurd (omega arith)
-all_divides (x ∷ a) (y ∷ b) e = ap (λ (t : Bool). leb x y && t) (all_divides a b (omega arith))
 
 pub all_coprime : (a b : List ℕ) → list_all (λ (p : ℕ × ℕ). eqb p.0 0 || eqb p.1 0) (zip a b) ≡ coprime a b
 all_coprime [] b = refl
@@ -84,7 +73,7 @@ lcm_cells = by_cells max lcm refl (λ x y a b. refl)
 pub gcd_cells : Cells min gcd
 gcd_cells = by_cells min gcd refl (λ x y a b. refl)
 
--- the orders
+-- two numbers
 
 pub cmp_numbers : (x y : ℕ) → nat_cmp x y ≡ order_of (compare x y)
 cmp_numbers x y = go (compare x y) (compare_says (compare x y) x y refl)
@@ -93,42 +82,3 @@ cmp_numbers x y = go (compare x y) (compare_says (compare x y) x y refl)
     go Ordering.lt h = sym (nat_cmp_is x y _ h)
     go Ordering.eq h = sym (nat_cmp_is x y _ h)
     go Ordering.gt h = sym (nat_cmp_is x y _ h)
-
-then_or_else : (o p : Ordering) → ordering_then (order_of o) (order_of p) ≡ order_of (or_else o p)
-then_or_else Ordering.lt p = refl
-then_or_else Ordering.eq p = refl
-then_or_else Ordering.gt p = refl
-
-pub cmp_lex : (a b : List ℕ) → slice_cmp nat_cmp a b ≡ order_of (lex a b)
-cmp_lex [] [] = refl
-cmp_lex [] (y ∷ b) = refl
-cmp_lex (x ∷ a) [] = refl
-cmp_lex (x ∷ a) (y ∷ b) = rw (cmp_numbers x y, cmp_lex a b) (then_or_else (compare x y) (lex a b))
-
-then_equal : (o : Order) → ordering_then o Equal ≡ o
-then_equal Less = refl
-then_equal Equal = refl
-then_equal Greater = refl
-
-then_assoc : (o p q : Order) → ordering_then o (ordering_then p q) ≡ ordering_then (ordering_then o p) q
-then_assoc Less p q = refl
-then_assoc Equal p q = refl
-then_assoc Greater p q = refl
-
--- one pair more behind two lists of one length
-cmp_last : (s t : List ℕ) (x y : ℕ) → length t ≡ length s → slice_cmp nat_cmp (s ++ x ∷ []) (t ++ y ∷ []) ≡ ordering_then (slice_cmp nat_cmp s t) (nat_cmp x y)
-cmp_last [] [] x y e = then_equal (nat_cmp x y)
-cmp_last [] (v ∷ t) x y e = absurd (omega arith)
-cmp_last (u ∷ s) [] x y e = absurd (omega arith)
-cmp_last (u ∷ s) (v ∷ t) x y e =
-    ap (ordering_then (nat_cmp u v)) (cmp_last s t x y (omega arith)) ∙ then_assoc (nat_cmp u v) (slice_cmp nat_cmp s t) (nat_cmp x y)
-
-pub cmp_revlex : (a b : List ℕ) → length b ≡ length a → slice_cmp nat_cmp (reverse b) (reverse a) ≡ order_of (revlex a b)
-cmp_revlex [] [] e = refl
-cmp_revlex [] (y ∷ b) e = absurd (omega arith)
-cmp_revlex (x ∷ a) [] e = absurd (omega arith)
-cmp_revlex (x ∷ a) (y ∷ b) e =
-    ap₂ (slice_cmp nat_cmp) (reverse_onto b y []) (reverse_onto a x [])
-    ∙ cmp_last (reverse b) (reverse a) y x (omega (arith, length-reverse b, length-reverse a))
-    ∙ ap₂ ordering_then (cmp_revlex a b (omega arith)) (cmp_numbers y x)
-    ∙ then_or_else (revlex a b) (compare y x)

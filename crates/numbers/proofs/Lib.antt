@@ -19,6 +19,7 @@ mod UpdateCall
 mod LeastPowers
 mod DimensionCall
 mod FewRows
+pub mod Sums
 pub mod SignedValue
 pub mod DeterminedHilbert
 pub mod DeterminedNumerator

@@ -98,8 +98,8 @@ fn part(s: &[u64], a: u64, all: u64) -> Option<u64> {
     None
 }
 
-// What the bits of a list in at most W variables suggest, for a seed of so many coefficients; nothing where they are few: no variable
-// is in three of its m monomials, and 2m - 8 are in two.
+// What the bits of a list suggest, those of W variables at most, for a seed of so many coefficients. Nothing where they are few: at most 14
+// monomials of one part and 4 coefficients, and no variable is in three of the monomials, but so many are in two: twice the monomials less 8.
 fn suggested<const W: usize>(list: &Monomials, len: usize) -> Option<Hint>
     requires { W ≤ 256 }
 {

@@ -35,12 +35,12 @@ fn masks_of(list: &Monomials) -> [[u64; 2]; 60]
     m
 }
 
-// Whether the masks allow that monomial k divides another one. They are arrays of two words, and so not for `divides_consistent_with`.
-fn may_divide(masks: &[[u64; 2]], k: usize) -> bool
-    requires { k < length masks.now }
+// Whether the first `count` masks allow that monomial k divides another one. They are arrays of two words, and so not for `divides_consistent_with`.
+fn may_divide(masks: &[[u64; 2]; 60], count: usize, k: usize) -> bool
+    requires { (count ≤ 60) × (k < count) }
 {
     let a = masks[k];
-    masks
+    masks[..count]
         .iter()
         .enumerate()
         .any(|(i, b)| i != k && (a[0] & !b[0]) | (a[1] & !b[1]) == 0)
@@ -56,7 +56,7 @@ fn dividing(list: &Monomials) -> u64
     let masks = masks_of(list);
     let mut bits: u64 = 0;
     for k in (0..list.count).rev() {
-        bits = bits << 1 | u64::from(may_divide(&masks[..list.count], k));
+        bits = bits << 1 | u64::from(may_divide(&masks, list.count, k));
     }
     bits
 }

@@ -46,6 +46,17 @@ fn put_used(room: &mut [u16], list: &Monomials, us: &mut [u16], ps: &mut [usize]
     w
 }
 
+// The cells, at the front of the room.
+// A `for`: for `copy_from_slice` an archive for C needs `memmove` from outside.
+fn put_cells(room: &mut [u16], cells: &[u16])
+    requires { length cells.now ≤ length room.old }
+    ensures { Wrote room.old (λ j. slice_index cells.now j) 0 (length cells.now) room.new }
+{
+    for (i, cell) in cells.iter().enumerate() {
+        room[i] = *cell;
+    }
+}
+
 // A list with the numerator of the given one, at the front of the room; its width.
 pub(crate) fn put_list(room: &mut [u16], list: &CheckedList) -> usize
     requires { list.now.count * list.now.n ≤ length room.old }
@@ -53,7 +64,7 @@ pub(crate) fn put_list(room: &mut [u16], list: &CheckedList) -> usize
 {
     let n = list.n;
     if (n <= 32) | (list.count <= 3) {
-        room[..list.cells.len()].copy_from_slice(list.cells);
+        put_cells(room, list.cells);
         return n;
     }
     let mut us = [0u16; 255];

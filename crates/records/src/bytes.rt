@@ -37,7 +37,7 @@ pub(crate) fn field_of(rec: &[u8]) -> usize
     u32::from_be_bytes([rec[1], rec[2], rec[3], rec[4]]) as usize
 }
 
-// Copies the exponents of a record, which is all that follows its header. Both callers have more cells than it has exponents, and keep the rest.
+// Copies the exponents of a record, which is all that follows its header. Both callers may have more cells than it has exponents, and keep the rest.
 pub(crate) fn copy_cells(rec: &[u8], count: usize, cells: &mut [u16])
     requires { (length rec.now ≡ 7 + 2 * count) × (count ≤ length cells.old) }
     ensures { cells.new ≡ exponents_in rec.now ++ drop count cells.old }

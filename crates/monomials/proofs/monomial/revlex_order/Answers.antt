@@ -1,12 +1,21 @@
--- The chains compare the exponents from the last on. Rests on `cmp_revlex`.
-use mathlib.Core.Path.{◌≡◌, refl, ◌∙◌}
-use Rattle.std.proofs.lemmas.Iterator.Adapters.{YieldsList-from_rev_slice}
-use Rattle.std.proofs.lemmas.Iterator.Search.{cmp_from_yields_List}
-use Rattle.std.specs.Ordering.{nat_cmp}
-use Rattle.monomials.proofs.Pairs.{cmp_revlex}
+-- The variables from i on are equal. Rests on `revlex_differ` and `revlex_same`.
+use native.Mathlib.Omega.{arith}
+use mathlib.Core.Path.{◌≡◌, sym, ap, ◌∙◌}
+use Prim.Native.Nat.{◌+◌, ◌-◌}
+use Rattle.laws.proofs.Order.{revlex_same, revlex_differ}
+use Rattle.monomials.specs.Monomial.{order_of}
+use Rattle.monomials.proofs.Pairs.{cmp_numbers}
 use Rattle.monomials.proofs.monomial.revlex_order.Goals as goal
+
+pub returns-then-a-i : goal.returns-then-a-i
+returns-then-a-i c =
+    let i = c.loop-i.i in
+    let e : i - 1 + 1 ≡ i = omega arith in
+    c.cmp.ensures
+    ∙ cmp_numbers _ _
+    ∙ ap order_of (sym (revlex_differ c.args.a.now c.args.b.now (i - 1) (omega arith) (omega arith) (rw e c.loop-i.invariant) c.if-a-i.true))
 
 pub returns : goal.returns
 returns c =
-    cmp_from_yields_List (λ x y. y ≡ x) c.rev-2.result nat_cmp c.cmp.result c.cmp.ensures.ran (YieldsList-from_rev_slice c.args.b.now (cc)) (λ it e. YieldsList-from_rev_slice c.args.a.now (cc)) (λ x y. refl)
-    ∙ cmp_revlex c.args.a.now c.args.b.now c.requires
+    let e : c.loop-i.i ≡ 0 = omega arith in
+    ap order_of (sym (revlex_same c.args.a.now c.args.b.now (rw e at c.loop-i.invariant)))
