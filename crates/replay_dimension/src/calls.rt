@@ -1,9 +1,12 @@
 // The dimension of one case's list, held against the number, the values and the rooms that the case gives. A case that is larger than the slices
 // here is wrong.
+ghost use Rattle.std.specs.Prelude.{◌≡◌, Bool, Some};
+
 use monomials::refusal::Refusal;
 use numbers::dimension::{Dimension, quotient_dimension};
 use vectors::asked::{cells_asked, coefficients_asked};
 use vectors::reader::Reader;
+use vectors::replay::Calls;
 use vectors::rooms::{compare, wiped};
 use vectors::told::{done, told_by};
 
@@ -24,8 +27,20 @@ struct Left {
     words: u64,
 }
 
+// The call of this program.
+pub struct DimensionCalls;
+
+impl Calls for DimensionCalls {
+    // Every case is of this program.
+    ghost says = { λ code case says. (right : Bool) × (says ≡ Some right) };
+
+    fn compare(code: u64, case: Reader) -> Option<bool> {
+        Some(is_right(code, case))
+    }
+}
+
 // Whether the call with this code does what the case says. The codes are those of the vectors' files, and stand here alone: so no enum of them.
-pub fn is_right(code: u64, mut case: Reader) -> bool {
+fn is_right(code: u64, mut case: Reader) -> bool {
     if code != 24 {
         return false;
     }
@@ -33,11 +48,18 @@ pub fn is_right(code: u64, mut case: Reader) -> bool {
     let s = case.size();
     let mut cells = [0u16; CELLS];
     let m = case.fill(&mut cells);
-    compared(n, s, &cells[..m], case).unwrap_or(false)
+    are_lent(case) && compared(n, s, &cells[..m], case).unwrap_or(false)
 }
 
-// Whether the call, on the rooms that the case lends, does what the case says; none where these are larger than there is here. A case may give
-// a list that no type of a list holds, so its parts go loose.
+// Whether no size of a room that stands here is more than there is: looked at before anything is wiped, which takes longer.
+fn are_lent(mut case: Reader) -> bool {
+    [CELLS_LENT, COEFFICIENTS_LENT, COEFFICIENTS_LENT, WORDS_LENT]
+        .iter()
+        .all(|most| case.size() <= *most)
+}
+
+// Whether the call, on the rooms that the case lends, does what the case says; none where these are larger than there is here, or the answer is
+// another. A case may give a list that no type of a list holds, so its parts go loose.
 fn compared(n: usize, s: usize, cells: &[u16], case: Reader) -> Option<bool> {
     let mut room = [0u16; CELLS_LENT];
     let mut first = [0i64; COEFFICIENTS_LENT];
@@ -79,15 +101,16 @@ fn compared_on(
         &mut second[..k],
         &mut sums[..l],
     );
+    let told = told_by(answer.map(|x| done(4, x.dimension.low, x.dimension.high, x.top)));
+    if !case.is_answer(told) {
+        return None;
+    }
     let left = left_by(answer, n, s, cells);
     let a = compare(case.text, wiped(left.cells), &room[..i]);
     let b = compare(case.text, wiped(left.coefficients), &first[..j]);
     let c = compare(case.text, wiped(left.coefficients), &second[..k]);
     let d = compare(case.text, wiped(left.words), &sums[..l]);
-    let told = told_by(answer, |x| {
-        done(4, x.dimension.low, x.dimension.high, x.top)
-    });
-    Some(a.right && b.right && c.right && d.right && case.is_answer(told))
+    Some(a.right && b.right && c.right && d.right)
 }
 
 // A refusal touches no room, nor does a list with a unit, which alone has the dimension 0, or a list without variables.

@@ -3,7 +3,7 @@
 
 mod calls;
 
-use calls::is_right;
+use calls::DimensionCalls;
 use std::io;
 use vectors::replay::replay_input;
 
@@ -11,12 +11,11 @@ use vectors::replay::replay_input;
 fn main(rt: HostRuntime) -> io::Result<()> {
     let mut room = [0u8; 131072];
     let mut counts = [0u64; 25];
-    replay_input(
+    replay_input::<DimensionCalls, _, _>(
         &mut rt.stdin(),
         &mut rt.stdout(),
         &mut room,
         &mut counts,
-        |code, case| Some(is_right(code, case)),
     )?;
     Ok(())
 }

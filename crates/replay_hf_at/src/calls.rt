@@ -1,18 +1,33 @@
 // Each call on the arguments of one case, held against the number, the values and the room that the case gives.
+ghost use Rattle.std.specs.Prelude.{◌≡◌, Bool, Some};
+
 use monomials::refusal::Refusal;
 use numbers::coefficients::{coeff, degree, is_zero};
 use numbers::hf_at::hf_at;
 use numbers::signed::to_bits;
 use numbers::wide::Wide;
 use vectors::reader::Reader;
+use vectors::replay::Calls;
 use vectors::rooms::{compare, wiped};
 use vectors::told::{Told, done, told_by};
 
 // No case gives more coefficients.
 const COEFFICIENTS: usize = 300;
 
+// The calls of this program.
+pub struct HilbertCalls;
+
+impl Calls for HilbertCalls {
+    // Every case is of this program.
+    ghost says = { λ code case says. (right : Bool) × (says ≡ Some right) };
+
+    fn compare(code: u64, case: Reader) -> Option<bool> {
+        Some(is_right(code, case))
+    }
+}
+
 // Whether the call with this code does what the case says. The codes are those of the vectors' files, and stand here alone: so no enum of them.
-pub fn is_right(code: u64, case: Reader) -> bool {
+fn is_right(code: u64, case: Reader) -> bool {
     match code {
         23 => is_value_right(case),
         25 => is_list_right(case, |coeffs| done(2, u64::from(is_zero(coeffs)), 0, 0)),
@@ -38,7 +53,7 @@ fn is_value_right(mut case: Reader) -> bool {
 fn is_value_told(n: usize, coeffs: &[i64], d: usize, sums: &mut [u64], case: Reader) -> bool {
     let answer = hf_at(n, coeffs, d, sums);
     let left = compare(case.text, wiped(words_left(answer, d)), sums);
-    let told = told_by(answer, |w| done(3, w.low, w.high, 0));
+    let told = told_by(answer.map(|w| done(3, w.low, w.high, 0)));
     left.right && case.is_answer(told)
 }
 

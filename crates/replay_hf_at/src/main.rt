@@ -4,7 +4,7 @@
 
 mod calls;
 
-use calls::is_right;
+use calls::HilbertCalls;
 use std::io;
 use vectors::replay::replay_input;
 
@@ -12,12 +12,6 @@ use vectors::replay::replay_input;
 fn main(rt: HostRuntime) -> io::Result<()> {
     let mut room = [0u8; 32768];
     let mut counts = [0u64; 28];
-    replay_input(
-        &mut rt.stdin(),
-        &mut rt.stdout(),
-        &mut room,
-        &mut counts,
-        |code, case| Some(is_right(code, case)),
-    )?;
+    replay_input::<HilbertCalls, _, _>(&mut rt.stdin(), &mut rt.stdout(), &mut room, &mut counts)?;
     Ok(())
 }

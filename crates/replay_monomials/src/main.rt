@@ -3,7 +3,7 @@
 
 mod calls;
 
-use calls::is_right;
+use calls::MonomialCalls;
 use std::io;
 use vectors::replay::replay_input;
 
@@ -11,12 +11,6 @@ use vectors::replay::replay_input;
 fn main(rt: HostRuntime) -> io::Result<()> {
     let mut room = [0u8; 131072];
     let mut counts = [0u64; 14];
-    replay_input(
-        &mut rt.stdin(),
-        &mut rt.stdout(),
-        &mut room,
-        &mut counts,
-        |code, case| Some(is_right(code, case)),
-    )?;
+    replay_input::<MonomialCalls, _, _>(&mut rt.stdin(), &mut rt.stdout(), &mut room, &mut counts)?;
     Ok(())
 }

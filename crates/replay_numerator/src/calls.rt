@@ -1,10 +1,13 @@
 // Each call on the arguments of one case, held against the number, the coefficients and the rooms that the case gives. A case that is larger than
 // the slices here is wrong.
+ghost use Rattle.std.specs.Prelude.{◌≡◌, Bool, Some};
+
 use monomials::refusal::Refusal;
 use numbers::numerator::hilbert_numerator;
 use numbers::update::add_generators;
 use vectors::asked::cells_asked;
 use vectors::reader::Reader;
+use vectors::replay::Calls;
 use vectors::rooms::{Contents, compare, list_at, wiped};
 use vectors::told::{Told, done, output_at, told_by};
 
@@ -25,8 +28,20 @@ struct Held {
     second: Contents,
 }
 
+// The calls of this program.
+pub struct NumeratorCalls;
+
+impl Calls for NumeratorCalls {
+    // Every case is of this program.
+    ghost says = { λ code case says. (right : Bool) × (says ≡ Some right) };
+
+    fn compare(code: u64, case: Reader) -> Option<bool> {
+        Some(is_right(code, case))
+    }
+}
+
 // Whether the call with this code does what the case says. The codes are those of the vectors' files, and stand here alone: so no enum of them.
-pub fn is_right(code: u64, case: Reader) -> bool {
+fn is_right(code: u64, case: Reader) -> bool {
     match code {
         21 => is_numerator_right(case),
         22 => is_update_right(case),
@@ -40,6 +55,9 @@ fn is_numerator_right(mut case: Reader) -> bool {
     let mut cells = [0u16; CELLS];
     let m = case.fill(&mut cells);
     let list = &cells[..m];
+    if !are_lent(case) {
+        return false;
+    }
     let asked = cells_asked(n, s, list);
     compared(case, asked, |room, first, second| {
         hilbert_numerator(n, s, list, room, first, second)
@@ -60,11 +78,22 @@ fn is_update_right(mut case: Reader) -> bool {
     let coeffs = &coeffs[..g];
     let existing = &cells[..m];
     let added = &cells[m..all];
+    if !are_lent(case) {
+        return false;
+    }
     let asked = cells_asked(n, s.wrapping_add(t), &cells[..all]);
     compared(case, asked, |room, first, second| {
         add_generators(n, coeffs, s, existing, t, added, room, first, second)
     })
     .unwrap_or(false)
+}
+
+// Whether no size of a room that stands here is more than there is: looked at before the cells that are asked for are counted and before anything
+// is wiped, which take longer.
+fn are_lent(mut case: Reader) -> bool {
+    [CELLS_LENT, COEFFICIENTS_LENT, COEFFICIENTS_LENT]
+        .iter()
+        .all(|most| case.size() <= *most)
 }
 
 // Whether the call, on the rooms that the case lends, does what the case says; none where these are larger than there is here, or the number or
@@ -96,10 +125,8 @@ fn compared_on<F: FnOnce(&mut [u16], &mut [i64], &mut [i64]) -> Result<usize, Re
     let i = case.lend(room)?;
     let j = case.lend(first)?;
     let k = case.lend(second)?;
-    let told = told_by(
-        call(&mut room[..i], &mut first[..j], &mut second[..k]),
-        |length| done(2, length as u64, 0, 0),
-    );
+    let answer = call(&mut room[..i], &mut first[..j], &mut second[..k]);
+    let told = told_by(answer.map(|length| done(2, length as u64, 0, 0)));
     let held = held_after(&mut case, told, asked)?;
     let cells = compare(case.text, held.cells, &room[..i]);
     let left = compare(case.text, held.second, &second[..k]);

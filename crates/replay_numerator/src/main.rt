@@ -4,7 +4,7 @@
 
 mod calls;
 
-use calls::is_right;
+use calls::NumeratorCalls;
 use std::io;
 use vectors::replay::replay_input;
 
@@ -12,12 +12,11 @@ use vectors::replay::replay_input;
 fn main(rt: HostRuntime) -> io::Result<()> {
     let mut room = [0u8; 393216];
     let mut counts = [0u64; 23];
-    replay_input(
+    replay_input::<NumeratorCalls, _, _>(
         &mut rt.stdin(),
         &mut rt.stdout(),
         &mut room,
         &mut counts,
-        |code, case| Some(is_right(code, case)),
     )?;
     Ok(())
 }

@@ -1,7 +1,10 @@
 // Each call on the arguments of one case, held against the number, the values and the output that the case gives. A case that is larger than
 // the slices here is wrong.
+ghost use Rattle.std.specs.Prelude.{◌≡◌, None};
+
 use records::ideal::{check_place, copy_record, place, write_record};
 use vectors::reader::Reader;
+use vectors::replay::Calls;
 use vectors::rooms::{Contents, at_most, list_at, put, wiped};
 use vectors::told::{done, told_by};
 
@@ -10,15 +13,22 @@ const CELLS: usize = 15300;
 
 const BYTES: usize = 30720;
 
-// Whether the call with this code does what the case says; none for a case of the bridge alone. The codes are those of the vectors' files, and
-// stand here alone: so no enum of them.
-pub fn compared(code: u64, case: Reader) -> Option<bool> {
-    match code {
-        31 => Some(is_write_right(case)),
-        32 => Some(is_check_right(case)),
-        33 => compared_place(case),
-        34 => Some(is_copy_right(case)),
-        _ => Some(false),
+// The calls of this program.
+pub struct RecordCalls;
+
+impl Calls for RecordCalls {
+    // Only a part of a record can be of the bridge alone.
+    ghost says = { λ code case says. says ≡ None → code ≡ 33 };
+
+    // The codes are those of the vectors' files, and stand here alone: so no enum of them.
+    fn compare(code: u64, case: Reader) -> Option<bool> {
+        match code {
+            31 => Some(is_write_right(case)),
+            32 => Some(is_check_right(case)),
+            33 => compared_place(case),
+            34 => Some(is_copy_right(case)),
+            _ => Some(false),
+        }
     }
 }
 
@@ -31,10 +41,8 @@ fn is_write_right(mut case: Reader) -> bool {
     let Some(k) = case.lend(&mut room) else {
         return false;
     };
-    let told = told_by(
-        write_record(n, s, &cells[..m], &mut room[..k]),
-        |size| done(2, size as u64, 0, 0),
-    );
+    let answer = write_record(n, s, &cells[..m], &mut room[..k]);
+    let told = told_by(answer.map(|size| done(2, size as u64, 0, 0)));
     case.is_written(told, &room[..k])
 }
 
@@ -42,7 +50,7 @@ fn is_check_right(mut case: Reader) -> bool {
     let mut bytes = [0u8; BYTES];
     let m = case.fill(&mut bytes);
     let k = case.size();
-    case.is_answer(told_by(check_place(&bytes[..m], k), |()| done(1, 0, 0, 0)))
+    case.is_answer(told_by(check_place(&bytes[..m], k).map(|()| done(1, 0, 0, 0))))
 }
 
 // An output too small for any part is the bridge's alone.
@@ -62,7 +70,7 @@ fn is_place_right(rec: &[u8], k: usize, size: u64, mut case: Reader) -> bool {
     let part = place(rec, k);
     let check = check_place(rec, k);
     if check.is_err() {
-        return part.is_empty() && case.is_answer(told_by(check, |()| done(1, 0, 0, 0)));
+        return part.is_empty() && case.is_answer(told_by(check.map(|()| done(1, 0, 0, 0))));
     }
     case.is_told(done(2, part.len() as u64, 0, 0)) && is_part_right(part, size, case)
 }
@@ -106,9 +114,7 @@ fn is_copied(rec: &[u8], mut case: Reader) -> bool {
         return false;
     };
     let out = &mut room[..k];
-    let told = told_by(
-        copy_record(rec, out),
-        |shape| done(3, shape.n as u64, shape.m as u64, 0),
-    );
+    let answer = copy_record(rec, out);
+    let told = told_by(answer.map(|shape| done(3, shape.n as u64, shape.m as u64, 0)));
     case.is_written(told, out)
 }

@@ -4,7 +4,7 @@
 
 mod calls;
 
-use calls::compared;
+use calls::RecordCalls;
 use std::io;
 use vectors::replay::replay_input;
 
@@ -12,12 +12,11 @@ use vectors::replay::replay_input;
 fn main(rt: HostRuntime) -> io::Result<()> {
     let mut room = [0u8; 262144];
     let mut counts = [0u64; 35];
-    let bridge_alone = replay_input(
+    let bridge_alone = replay_input::<RecordCalls, _, _>(
         &mut rt.stdin(),
         &mut rt.stdout(),
         &mut room,
         &mut counts,
-        |code, case| compared(code, case),
     )?;
     println!(rt; "{bridge_alone} of the bridge alone, not compared")
 }

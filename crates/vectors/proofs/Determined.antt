@@ -1,15 +1,22 @@
 -- Any two outcomes that a contract of the reader allows are equal.
 -- Assumes nothing.
-use Rattle.std.proofs.Common.{◌≡◌, ℕ, Bool, Ok, sym, ◌∙◌}
+use Rattle.std.proofs.Common.{◌≡◌, ℕ, ◌<◌, ◌≤◌, Bool, List, ◌++◌, Option, None, Some, Ok, MatchOption, length, drop, refl, sym, ap, ap₂, ◌∙◌, subst, arith}
 use contract.Lifetimes.{Lfts}
 use denote.Param.Laws.{Laws}
 use denote.RattleType.{RattleType}
 use mir.Syntax.{Dict}
+use Rattle.std.specs.List.{FoldsTo}
+use Rattle.std.specs.declared.io.traits.Read.{Ghosts as ReadGhosts}
 use Rattle.std.specs.declared.io.traits.Write.{Ghosts}
+use Rattle.vectors.specs.Text.{integer_at as integer_at_of}
+use Rattle.vectors.specs.Rooms.{wanted, list_of, wiped as wiped_by}
+use Rattle.vectors.specs.Replay.{AreLines, ReadFrom, Replays}
 use Rattle.vectors.specs.declared.Integer.{Integer}
 use Rattle.vectors.specs.declared.rooms.Contents.{Contents}
 use Rattle.vectors.specs.declared.rooms.Compared.{Compared}
 use Rattle.vectors.specs.declared.told.Told.{Told}
+use Rattle.vectors.specs.declared.reader.Reader.{Reader}
+use Rattle.vectors.specs.declared.replay.Calls.{Ghosts as CallsGhosts}
 use Rattle.vectors.proofs.integer_at.Reads as integer_at
 use Rattle.vectors.proofs.line_after.Reads as line_after
 use Rattle.vectors.proofs.is_line_end.Reads as is_line_end
@@ -23,10 +30,23 @@ use Rattle.vectors.proofs.counts.say_counts.Reads as say_counts
 use Rattle.vectors.proofs.asked.cells_asked.Reads as cells_asked
 use Rattle.vectors.proofs.asked.coefficients_asked.Reads as coefficients_asked
 use Rattle.vectors.proofs.told.refused.Reads as refused
+use Rattle.vectors.proofs.told.told_by.Reads as told_by
 use Rattle.vectors.proofs.told.done.Reads as done
 use Rattle.vectors.proofs.told.is_told.Reads as is_told
 use Rattle.vectors.proofs.told.is_answer.Reads as is_answer
 use Rattle.vectors.proofs.told.output_at.Reads as output_at
+use Rattle.vectors.proofs.reader.Reader.word.Reads as reader_word
+use Rattle.vectors.proofs.reader.Reader.size.Reads as reader_size
+use Rattle.vectors.proofs.reader.Reader.lend.Reads as reader_lend
+use Rattle.vectors.proofs.reader.Reader.fill.Reads as reader_fill
+use Rattle.vectors.proofs.reader.Reader.holds.Reads as reader_holds
+use Rattle.vectors.proofs.reader.Reader.is_told.Reads as reader_is_told
+use Rattle.vectors.proofs.reader.Reader.is_answer.Reads as reader_is_answer
+use Rattle.vectors.proofs.reader.Reader.is_line_end.Reads as reader_is_line_end
+use Rattle.vectors.proofs.reader.Reader.is_written.Reads as reader_is_written
+use Rattle.vectors.proofs.replay.replay.Reads as replay
+use Rattle.vectors.proofs.replay.replay_input.Reads as replay_input
+use Rattle.vectors.proofs.Replaying.{OneAnswer, counts_determined, taken}
 
 pub integer_at_determined : (κs : Lfts 1) (a : _) (r r' : Integer) (s s' : _) → integer_at.Post κs a r s → integer_at.Post κs a r' s' → r ≡ r'
 integer_at_determined κs a r r' s s' p q = p ∙ sym q
@@ -46,7 +66,6 @@ wiped_determined κs a r r' s s' p q = p ∙ sym q
 pub at_most_determined : (κs : Lfts 0) (a : _) (r r' : ℕ) (s s' : _) → at_most.Post κs a r s → at_most.Post κs a r' s' → r ≡ r'
 at_most_determined κs a r r' s s' p q = p ∙ sym q
 
--- of the place and of what the slice then holds
 -- of the place and of what the slice then holds, at every type of element
 pub put_determined : (T : RattleType) (laws : Laws T) (copy : _) (element : _) (dict : Dict) (clone : _) (clone_dict : Dict) (κs : Lfts 3) (a : _) (r r' : ℕ) (s s' : _) → put.Post T laws copy element dict clone clone_dict κs a r s → put.Post T laws copy element dict clone clone_dict κs a r' s' → (r ≡ r') × (s.1.1.0.now ≡ s'.1.1.0.now)
 put_determined T laws copy element dict clone clone_dict κs a r r' s s' p q = (p.0 ∙ sym q.0, p.1 ∙ sym q.1)
@@ -71,6 +90,9 @@ coefficients_asked_determined κs a r r' s s' p q = p ∙ sym q
 pub refused_determined : (κs : Lfts 0) (a : _) (r r' : Told) (s s' : _) → refused.Post κs a r s → refused.Post κs a r' s' → r ≡ r'
 refused_determined κs a r r' s s' p q = p ∙ sym q
 
+pub told_by_determined : (κs : Lfts 0) (a : _) (r r' : Told) (s s' : _) → told_by.Post κs a r s → told_by.Post κs a r' s' → r ≡ r'
+told_by_determined κs a r r' s s' p q = p ∙ sym q
+
 pub done_determined : (κs : Lfts 0) (a : _) (r r' : Told) (s s' : _) → done.Post κs a r s → done.Post κs a r' s' → r ≡ r'
 done_determined κs a r r' s s' p q = p ∙ sym q
 
@@ -82,3 +104,70 @@ is_answer_determined κs a r r' s s' p q = p ∙ sym q
 
 pub output_at_determined : (κs : Lfts 1) (a : _) (r r' : Contents) (s s' : _) → output_at.Post κs a r s → output_at.Post κs a r' s' → r ≡ r'
 output_at_determined κs a r r' s s' p q = p ∙ sym q
+
+reader_determined : (x y : Reader) → x.text ≡ y.text → x.at ≡ y.at → x ≡ y
+reader_determined x y p q = ap₂ (λ (t : _) (z : ℕ). record { text = t; at = z }) p q
+
+-- of what a reader's methods answer, of the room after, and of the reader
+pub reader_word_determined : (κs : _) (a : _) (r r' : ℕ) (s s' : _) → reader_word.Post κs a r s → reader_word.Post κs a r' s' → (r ≡ r') × (s.0.now ≡ s'.0.now)
+reader_word_determined κs a r r' s s' p q = (p.0 ∙ sym q.0, reader_determined s.0.now s'.0.now (p.1.0 ∙ sym q.1.0) (p.1.1 ∙ sym q.1.1))
+
+pub reader_size_determined : (κs : _) (a : _) (r r' : ℕ) (s s' : _) → reader_size.Post κs a r s → reader_size.Post κs a r' s' → (r ≡ r') × (s.0.now ≡ s'.0.now)
+reader_size_determined κs a r r' s s' p q = (p.0 ∙ sym q.0, reader_determined s.0.now s'.0.now (p.1.0 ∙ sym q.1.0) (p.1.1 ∙ sym q.1.1))
+
+lent_determined : (m k : ℕ) (r r' : Option ℕ) → MatchOption r (k < m) (λ (n : ℕ). (n ≡ m) × (n ≤ k)) → MatchOption r' (k < m) (λ (n : ℕ). (n ≡ m) × (n ≤ k)) → r ≡ r'
+lent_determined m k None None p q = refl
+lent_determined m k None (Some n) p q = absurd (omega (arith, p, q.0, q.1))
+lent_determined m k (Some n) None p q = absurd (omega (arith, q, p.0, p.1))
+lent_determined m k (Some n) (Some n') p q = ap (λ (x : ℕ). Some x) (p.0 ∙ sym q.0)
+
+wiped_room_determined : {A : Type 0} (old : List A) (f : ℕ → List A) (x y : List A) (r : Option ℕ) → MatchOption r (x ≡ old) (λ (n : ℕ). x ≡ f n) → MatchOption r (y ≡ old) (λ (n : ℕ). y ≡ f n) → x ≡ y
+wiped_room_determined old f x y None p q = p ∙ sym q
+wiped_room_determined old f x y (Some n) p q = p ∙ sym q
+
+pub reader_lend_determined : (T : RattleType) (laws : Laws T) (copy : _) (element : _) (dict : Dict) (clone : _) (clone_dict : Dict) (κs : _) (a : _) (r r' : Option ℕ) (s s' : _) → reader_lend.Post T laws copy element dict clone clone_dict κs a r s → reader_lend.Post T laws copy element dict clone clone_dict κs a r' s' → (r ≡ r') × (s.1.0.now ≡ s'.1.0.now) × (s.0.now ≡ s'.0.now)
+reader_lend_determined T laws copy element dict clone clone_dict κs a r r' s s' p q =
+    let text = a.0.now.text.now in
+    let old = a.1.0.now in
+    let f : ℕ → List T.Denot = λ n. list_of n (λ (j : ℕ). element.of_bits (wanted text (wiped_by 0) j)) ++ drop n old in
+    let e = lent_determined (integer_at_of text a.0.now.at).magnitude (length old) r r' p.0 q.0 in (
+      e,
+      wiped_room_determined old f s.1.0.now s'.1.0.now r' (subst (λ (o : Option ℕ). MatchOption o (s.1.0.now ≡ old) (λ (n : ℕ). s.1.0.now ≡ f n)) e p.1.1.0) q.1.1.0,
+      reader_determined s.0.now s'.0.now (p.1.1.1.0 ∙ sym q.1.1.1.0) (p.1.1.1.1 ∙ sym q.1.1.1.1),
+    )
+
+pub reader_fill_determined : (T : RattleType) (laws : Laws T) (copy : _) (element : _) (dict : Dict) (clone : _) (clone_dict : Dict) (κs : _) (a : _) (r r' : ℕ) (s s' : _) → reader_fill.Post T laws copy element dict clone clone_dict κs a r s → reader_fill.Post T laws copy element dict clone clone_dict κs a r' s' → (r ≡ r') × (s.1.0.now ≡ s'.1.0.now) × (s.0.now ≡ s'.0.now)
+reader_fill_determined T laws copy element dict clone clone_dict κs a r r' s s' p q = (p.0 ∙ sym q.0, p.1.1.0 ∙ sym q.1.1.0, reader_determined s.0.now s'.0.now (p.1.1.1.0 ∙ sym q.1.1.1.0) (p.1.1.1.1 ∙ sym q.1.1.1.1))
+
+pub reader_holds_determined : (T : RattleType) (laws : Laws T) (copy : _) (element : _) (dict : Dict) (clone : _) (clone_dict : Dict) (κs : _) (a : _) (r r' : Bool) (s s' : _) → reader_holds.Post T laws copy element dict clone clone_dict κs a r s → reader_holds.Post T laws copy element dict clone clone_dict κs a r' s' → (r ≡ r') × (s.0.now ≡ s'.0.now)
+reader_holds_determined T laws copy element dict clone clone_dict κs a r r' s s' p q = (p.0 ∙ sym q.0, reader_determined s.0.now s'.0.now (p.1.0 ∙ sym q.1.0) (p.1.1 ∙ sym q.1.1))
+
+pub reader_is_told_determined : (κs : _) (a : _) (r r' : Bool) (s s' : _) → reader_is_told.Post κs a r s → reader_is_told.Post κs a r' s' → (r ≡ r') × (s.0.now ≡ s'.0.now)
+reader_is_told_determined κs a r r' s s' p q = (p.0 ∙ sym q.0, reader_determined s.0.now s'.0.now (p.1.0 ∙ sym q.1.0) (p.1.1 ∙ sym q.1.1))
+
+pub reader_is_answer_determined : (κs : _) (a : _) (r r' : Bool) (s s' : _) → reader_is_answer.Post κs a r s → reader_is_answer.Post κs a r' s' → r ≡ r'
+reader_is_answer_determined κs a r r' s s' p q = p ∙ sym q
+
+pub reader_is_line_end_determined : (κs : _) (a : _) (r r' : Bool) (s s' : _) → reader_is_line_end.Post κs a r s → reader_is_line_end.Post κs a r' s' → r ≡ r'
+reader_is_line_end_determined κs a r r' s s' p q = p ∙ sym q
+
+pub reader_is_written_determined : (T : RattleType) (laws : Laws T) (copy : _) (element : _) (dict : Dict) (clone : _) (clone_dict : Dict) (κs : _) (a : _) (r r' : Bool) (s s' : _) → reader_is_written.Post T laws copy element dict clone clone_dict κs a r s → reader_is_written.Post T laws copy element dict clone clone_dict κs a r' s' → r ≡ r'
+reader_is_written_determined T laws copy element dict clone clone_dict κs a r r' s s' p q = p ∙ sym q
+
+-- of the answer and of what the counts then are, where no case is answered in two ways
+pub replay_determined : (C : RattleType) (laws : Laws C) (calls : CallsGhosts C.Denot) (dict : Dict) → OneAnswer calls.says → (κs : _) (a : _) (r r' : ℕ) (s s' : _) → replay.Post C laws calls dict κs a r s → replay.Post C laws calls dict κs a r' s' → (r ≡ r') × (s.1.0.now ≡ s'.1.0.now)
+replay_determined C laws calls dict one κs a r r' s s' p q =
+    let e = counts_determined calls.says one a.0.now (a.1.0.now, 0) (s.1.0.now, r) (s'.1.0.now, r') p q in
+    (ap (λ (c : List ℕ × ℕ). c.1) e, ap (λ (c : List ℕ × ℕ). c.0) e)
+
+-- of the same, where all could be read and written, at every reader whose bytes a contract can name
+pub replay_input_determined : (C R W : RattleType) (laws : Laws C) (read_laws : Laws R) (write_laws : Laws W) (calls : CallsGhosts C.Denot) (dict : Dict) (read : ReadGhosts R.Denot) (read_dict : Dict) (write : Ghosts W.Denot) (write_dict : Dict) → OneAnswer calls.says → (κs : _) (a : _) (r r' : ℕ) (s s' : _)
+    → replay_input.Post C R W laws read_laws write_laws calls dict read read_dict write write_dict κs a (Ok r) s → replay_input.Post C R W laws read_laws write_laws calls dict read read_dict write write_dict κs a (Ok r') s'
+    → (bytes : List ℕ) → read.remaining a.0.now ≡ Some bytes → (r ≡ r') × (s.1.1.1.0.now ≡ s'.1.1.1.0.now)
+replay_input_determined C R W laws read_laws write_laws calls dict read read_dict write write_dict one κs a r r' s s' p q bytes known =
+    let k = length a.1.1.0.now in
+    let from : List ℕ × ℕ = (a.1.1.1.0.now, 0) in
+    let same : p.1.0 ≡ q.1.0 = taken k bytes p.1.0 _ _ known p.1.3 (omega (arith, p.0, p.1.1)) (λ h. p.1.4 (omega (arith, p.0, h))) ∙ sym (taken k bytes q.1.0 _ _ known q.1.3 (omega (arith, q.0, q.1.1)) (λ h. q.1.4 (omega (arith, q.0, h)))) in
+    let to : List ℕ × ℕ = (s'.1.1.1.0.now, r') in
+    let e = counts_determined calls.says one p.1.0 from (s.1.1.1.0.now, r) to p.1.5 (subst (λ (t : List ℕ). (lines : List ℕ) × AreLines t 0 lines × FoldsTo (Replays t (ReadFrom t calls.says)) from lines to) (sym same) q.1.5) in
+    (ap (λ (c : List ℕ × ℕ). c.1) e, ap (λ (c : List ℕ × ℕ). c.0) e)

@@ -1,5 +1,6 @@
 -- What a call tells: the first `count` of its number and three values.
 --   refused_by number, done_with count first second third == a refusal; 0 and values
+--   told_of answer        == the words of a call's value, or its refusal
 --   told_words t          == the words told
 --   told_at at t          == as many integers, at `at`
 --   answered s at t       == those words stand at `at`, and then the line ends
@@ -7,7 +8,9 @@
 --   place_told s at t     == the place after them
 --   written s at t xs     == those words stand at `at`, then xs is that output, and then the line ends
 -- Assumes nothing.
-use Rattle.std.specs.Prelude.{◌≡◌, ℕ, min, Bool, cond, ◌&&◌, List, [], ◌∷◌, take, ◌==◌, refl}
+use Rattle.std.specs.Prelude.{◌≡◌, ℕ, min, Bool, cond, ◌&&◌, List, [], ◌∷◌, take, ◌==◌, Result, Ok, Err, refl}
+use Rattle.monomials.specs.Refusal.{number}
+use Rattle.monomials.specs.declared.refusal.Refusal.{Refusal}
 use Rattle.vectors.specs.Text.{line_ended}
 use Rattle.vectors.specs.Rooms.{list_at, compared}
 use Rattle.vectors.specs.declared.rooms.Contents.{Contents}
@@ -18,6 +21,10 @@ refused_by number = record { count = 1; number = number; first = 0; second = 0; 
 
 abbrev pub done_with : ℕ → ℕ → ℕ → ℕ → Told
 done_with count first second third = record { count = count; number = 0; first = first; second = second; third = third }
+
+abbrev pub told_of : Result Told Refusal → Told
+told_of (Ok told) = told
+told_of (Err refusal) = refused_by (number refusal)
 
 abbrev pub told_words : Told → List ℕ
 told_words t = take (min t.count 4) (t.number ∷ t.first ∷ t.second ∷ t.third ∷ [])

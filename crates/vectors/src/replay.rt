@@ -1,8 +1,9 @@
 // A text of cases, replayed line by line.
-ghost use Rattle.std.specs.Prelude.{◌<◌, ◌≤◌, List, ℕ, length, IfOk};
+ghost use Rattle.std.specs.Prelude.{◌≡◌, ◌<◌, ◌≤◌, Bool, List, ℕ, Option, length, take, IfOk};
 ghost use Rattle.std.specs.List.{FoldsTo};
 ghost use Rattle.std.specs.Io.KnownBytes.{Consumes, IsAtEnd};
 ghost use Rattle.vectors.specs.Replay.{AreLines, ReadFrom, Replays};
+ghost use Rattle.vectors.specs.declared.reader.Reader.{Reader};
 
 use crate::counts::{say_counts, tally};
 use crate::reader::Reader;
@@ -11,15 +12,20 @@ use std::io;
 use std::io::{Read, Write};
 use streams::read_full;
 
-// Counts each case, as `compare` says of its code and of its arguments: right, wrong, or none of this program's. How many were none of this
+// The calls that a program replays, by their codes.
+pub trait Calls {
+    // What `compare` may say of a code and of the arguments from a place on.
+    ghost says: { ℕ → Reader → Option Bool → Type 0 };
+
+    // Whether the call with this code does what the case says; none where the case is none of the program's.
+    fn compare(code: u64, case: Reader<'_>) -> Option<bool>
+        ensures { says code case.entry result };
+}
+
+// Counts each case, as `C` says of its code and of its arguments: right, wrong, or none of this program's. How many were none of this
 // program's. A comment has no code.
-pub fn replay<F: Fn(u64, Reader<'_>) -> Option<bool>>(
-    text: &[u8],
-    counts: &mut [u64],
-    compare: F,
-) -> u64
-    requires { F.IsAlwaysCallable compare }
-    ensures { (lines : _) × AreLines text.now 0 lines × FoldsTo (Replays text.now (ReadFrom text.now (λ code case says. F.post compare code case says))) (counts.old, 0) lines (counts.new, result) }
+pub fn replay<C: Calls>(text: &[u8], counts: &mut [u64]) -> u64
+    ensures { (lines : _) × AreLines text.now 0 lines × FoldsTo (Replays text.now (ReadFrom text.now C.says)) (counts.old, 0) lines (counts.new, result) }
 {
     let mut apart: u64 = 0;
     let mut at: usize = 0;
@@ -31,7 +37,7 @@ pub fn replay<F: Fn(u64, Reader<'_>) -> Option<bool>>(
                 text,
                 at: code.next,
             };
-            match compare(code.magnitude, case) {
+            match C::compare(code.magnitude, case) {
                 Some(right) => tally(counts, code.magnitude, right),
                 None => apart = apart.wrapping_add(1),
             }
@@ -43,18 +49,17 @@ pub fn replay<F: Fn(u64, Reader<'_>) -> Option<bool>>(
 
 // Replays as much of the input as the room takes, and writes the counts, on top of which the cases are counted; how many cases were none of this
 // program's.
-pub fn replay_input<R: Read, W: Write, F: Fn(u64, Reader<'_>) -> Option<bool>>(
+pub fn replay_input<C: Calls, R: Read, W: Write>(
     input: &mut R,
     out: &mut W,
     room: &mut [u8],
     counts: &mut [u64],
-    compare: F,
 ) -> io::Result<u64>
-    requires { F.IsAlwaysCallable compare }
-    ensures { IfOk result (λ apart. (text : List ℕ) × (length text ≤ length room.new) × Consumes (R.remaining input.old) (R.remaining input.new) text × (length text < length room.new → IsAtEnd (R.remaining input.new)) × ((lines : _) × AreLines text 0 lines × FoldsTo (Replays text (ReadFrom text (λ code case says. F.post compare code case says))) (counts.old, 0) lines (counts.new, apart))) }
+    ensures size { length room.new ≡ length room.old }
+    ensures replayed { IfOk result (λ apart. (text : List ℕ) × (length text ≤ length room.new) × (take (length text) room.new ≡ text) × Consumes (R.remaining input.old) (R.remaining input.new) text × (length text < length room.new → IsAtEnd (R.remaining input.new)) × ((lines : _) × AreLines text 0 lines × FoldsTo (Replays text (ReadFrom text C.says)) (counts.old, 0) lines (counts.new, apart))) }
 {
     let size = read_full(input, room)?;
-    let apart = replay(&room[..size], counts, compare);
+    let apart = replay::<C>(&room[..size], counts);
     say_counts(counts, out)?;
     Ok(apart)
 }

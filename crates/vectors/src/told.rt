@@ -1,8 +1,7 @@
 // What a call tells, held against a case: the number, after 0 the values, and then the output.
-ghost use Rattle.std.specs.Prelude.{◌≡◌, MatchResult};
-ghost use Rattle.monomials.specs.Refusal.{number};
+ghost use Rattle.std.specs.Prelude.{◌≡◌};
 ghost use Rattle.vectors.specs.Rooms.{compared};
-ghost use Rattle.vectors.specs.Told.{refused_by, done_with, told_at, told_words, answered, output_at};
+ghost use Rattle.vectors.specs.Told.{refused_by, told_of, done_with, told_at, told_words, answered, output_at};
 
 use crate::is_line_end;
 use crate::rooms::{Compared, Contents, at_most, compare, list_at};
@@ -31,13 +30,12 @@ pub fn refused(number: u8) -> Told
     }
 }
 
-// What a call answers, told by its words, or as a refusal.
-pub fn told_by<T, F: FnOnce(T) -> Told>(answer: Result<T, Refusal>, words: F) -> Told
-    requires { F.IsAlwaysCallable words }
-    ensures { MatchResult answer (λ x. F.post words x result) (λ r. result ≡ refused_by (number r)) }
+// What a call answers: the words of its value, or its refusal.
+pub fn told_by(answer: Result<Told, Refusal>) -> Told
+    ensures { result ≡ told_of answer }
 {
     match answer {
-        Ok(value) => words(value),
+        Ok(told) => told,
         Err(refusal) => refused(number_of(refusal)),
     }
 }

@@ -1,14 +1,13 @@
 -- `replay` meets its contract: what the lines from a place on make of the counts, all lines make. Rests on `replay_more`.
 use Rattle.std.proofs.Common.{ℕ, Bool, List, Option, [], ap₂, ◌∙◌, arith, refl}
 use Rattle.vectors.specs.Replay.{ReadFrom, Replays}
-use Rattle.vectors.specs.declared.reader.Reader.{Reader}
 use Rattle.vectors.proofs.Replaying.{replays_case, replays_comment, replay_more}
 use Rattle.vectors.proofs.replay.replay.Goals as goal
 use Rattle.vectors.proofs.replay.replay.Goals.{then-code-ne0+in-Some, then-code-ne0+in-None, else-code-ne0}
 
 pub loop-at-preserved : goal.loop-at-preserved
 loop-at-preserved g c =
-    let Says : ℕ → ℕ → Option Bool → Type 0 = ReadFrom c.args.text.now (λ (code : ℕ) (case : Reader) (says : Option Bool). goal.F-post g c.args.compare code case says) in
+    let Says : ℕ → ℕ → Option Bool → Type 0 = ReadFrom c.args.text.now g.C.Calls.says in
     let s = c.args.text.now in
     let at = c.loop-at.at in
     let code = c.integer_at-code.result in

@@ -1,5 +1,5 @@
 -- `replay_input` meets its contract: the text is what was read.
-use Rattle.std.proofs.Common.{◌≡◌, ◌≤◌, take, length, arith, rules, length-take-le}
+use Rattle.std.proofs.Common.{◌≡◌, ◌≤◌, take, length, arith, rules, refl, length-take-le}
 use Rattle.vectors.proofs.replay.replay_input.Goals as goal
 
 pub returns : goal.returns
@@ -8,4 +8,7 @@ returns g c =
     let room = c.read_full.new.room in
     let inside : n ≤ length room = search (rules, c.in_ok-size.ensures.within) in
     let size : length (take n room) ≡ n = length-take-le n room inside in
-    (take n room, omega arith, c.in_ok-size.ensures.bytes, (λ h. c.in_ok-size.ensures.end (omega arith)), (c.replay-apart.ensures.0, c.replay-apart.ensures.1, c.replay-apart.ensures.2))
+    record {
+      size = search rules;
+      replayed = (take n room, omega arith, rw size refl, c.in_ok-size.ensures.bytes, (λ h. c.in_ok-size.ensures.end (omega arith)), (c.replay-apart.ensures.0, c.replay-apart.ensures.1, c.replay-apart.ensures.2));
+    }
