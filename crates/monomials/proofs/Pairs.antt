@@ -1,22 +1,23 @@
 -- What std's words on two lists are in the words of the crate laws.
 --   degree_sum                          a degree as a sum
 --   all_coprime, all_fits               tests of each pair of exponents, the second on equal widths
+--   fold_divides                        each pair tested, with no stop at one that fails
 --   sum_fits                            what the second says of one pair
 --   product_cells, quotient_cells, lcm_cells, gcd_cells  a list that holds what is made of each pair, on equal widths
 --   cmp_numbers                         how two numbers compare
 -- Assumes nothing.
 use mathlib.Core.Path.{◌≡◌, refl, sym, ap, ◌∙◌}
-use mathlib.Core.Bool.{Bool, true, ◌&&◌, ◌||◌}
+use mathlib.Core.Bool.{Bool, true, false, ◌&&◌, ◌||◌}
 use mathlib.Core.List.{List, [], ◌∷◌}
 use Prim.Native.Nat.{ℕ, zero, suc, ◌+◌, ◌-◌, ◌≤◌, ◌<◌, max, min, compare, Ordering}
 use native.Mathlib.Omega.{arith}
 use lib.Dec.{leb, eqb}
 use lib.ListN.{length, get_or}
-use Rattle.std.specs.List.{zip, list_all, sum_by}
+use Rattle.std.specs.List.{zip, list_all, fold, sum_by}
 use Rattle.std.specs.Ordering.{nat_cmp}
 use Rattle.std.specs.Cmp.{nat_cmp_is}
 use Rattle.std.proofs.lemmas.List.Sums.{sum_by-cons}
-use Rattle.laws.specs.Monomial.{degree, product, quotient, lcm, gcd, coprime}
+use Rattle.laws.specs.Monomial.{degree, divides, product, quotient, lcm, gcd, coprime}
 use Rattle.laws.proofs.Monomial.{and_right, head_le, cons_eq}
 use Rattle.laws.proofs.Order.{Says, compare_says}
 use Rattle.monomials.specs.Monomial.{order_of, at_most}
@@ -37,6 +38,14 @@ all_fits E [] [] e = refl
 all_fits E [] (y ∷ b) e = absurd (omega arith)
 all_fits E (x ∷ a) [] e = absurd (omega arith)
 all_fits E (x ∷ a) (y ∷ b) e = ap (λ (t : Bool). leb (x + y) E && t) (all_fits E a b (omega arith))
+
+pub fold_divides : (t : Bool) (a b : List ℕ) → length b ≡ length a → fold (λ (t : Bool) (p : ℕ × ℕ). t && leb p.0 p.1) t (zip a b) ≡ (t && divides a b)
+fold_divides true [] [] e = refl
+fold_divides false [] [] e = refl
+fold_divides t [] (y ∷ b) e = absurd (omega arith)
+fold_divides t (x ∷ a) [] e = absurd (omega arith)
+fold_divides true (x ∷ a) (y ∷ b) e = fold_divides (leb x y) a b (omega arith)
+fold_divides false (x ∷ a) (y ∷ b) e = fold_divides false a b (omega arith)
 
 -- so each sum fits
 pub sum_fits : (E : ℕ) (a b : List ℕ) (k : ℕ) → at_most E (product a b) ≡ true → k < length a → k < length b → get_or a k 0 + get_or b k 0 ≤ E

@@ -66,7 +66,7 @@ pub fn quotient(a: &[u16], b: &[u16], out: &mut [u16]) -> Result<(), Refusal>
     if !all_at_most(b, a) {
         return Err(Refusal::Division);
     }
-    write_cells(|x, y| x - y, a, b, out);
+    write_cells(|x, y| x.saturating_sub(y), a, b, out);
     Ok(())
 }
 
@@ -91,6 +91,8 @@ pub fn gcd(a: &[u16], b: &[u16], out: &mut [u16]) -> Result<(), Refusal>
 }
 
 // Whether a divides b.
+// Inlined, since a record's minimal list asks it of each pair.
+#[inline(always)]
 pub fn divides(a: &[u16], b: &[u16]) -> Result<bool, Refusal>
     ensures { result ≡ divides_answer MAX_WIDTH a.now b.now }
 {

@@ -25,7 +25,7 @@ impl Model for Places {
 }
 
 impl Places {
-    fn new() -> Self
+    pub(crate) fn new() -> Self
         ensures { result ≡ [] }
     {
         Places {
@@ -51,22 +51,23 @@ impl Places {
     }
 }
 
-// The places of the minimal monomials.
-pub(crate) fn choose(list: &MonomialList) -> Places
-    ensures rows { members_at list.now result ≡ minimal (members list.now) }
-    ensures few { length result ≤ list.now.count }
-    ensures below { Below list.now.count result }
+// Puts the places of the minimal monomials where there are none yet. As a value they would be copied, and a record of one monomial take twice as long.
+pub(crate) fn choose(list: &MonomialList, places: &mut Places)
+    requires { places.old ≡ [] }
+    ensures rows { members_at list.now places.new ≡ minimal (members list.now) }
+    ensures few { length places.new ≤ list.now.count }
+    ensures below { Below list.now.count places.new }
 {
-    let mut places = Places::new();
     for i in (0..list.count).rev() {
         if list.is_minimal(i) {
-            insert_row(list, &mut places, i);
+            insert_row(list, places, i);
         }
     }
-    places
 }
 
 // Puts i among the places, whose monomials fall, unless its monomial is there.
+// Not inlined: beside the tests of pairs its loops would keep what they read in memory.
+#[inline(never)]
 fn insert_row(list: &MonomialList, places: &mut Places, i: usize)
     requires there { (i < list.now.count) × (length places.old < MAX_COUNT) }
     requires below { Below list.now.count places.old }

@@ -7,7 +7,7 @@ ghost use Rattle.records.specs.Rows.{members_at, Below, header_stands, Ample};
 ghost use Rattle.records.specs.Ideal.{write_answer, write_bytes, place_answer, place_part, copy_answer, copy_cells};
 
 use crate::bytes::{copy_cells, field_of, put_bytes, put_cells};
-use crate::choice::choose;
+use crate::choice::{Places, choose};
 use crate::list::MonomialList;
 use monomials::refusal::{MAX_COUNT, MAX_WIDTH, Refusal};
 
@@ -50,7 +50,8 @@ pub fn write_record(n: usize, s: usize, cells: &[u16], out: &mut [u8]) -> Result
         count: s,
         cells,
     };
-    let places = choose(&list);
+    let mut places = Places::new();
+    choose(&list, &mut places);
     let chosen = places.as_slice();
     let m = chosen.len();
     let size = 7 + 2 * (m * n);

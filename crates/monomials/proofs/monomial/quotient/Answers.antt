@@ -1,13 +1,8 @@
--- No exponent falls below 0 where the test passed, and the cells that `write_cells` leaves are the quotient. Rests on `divides_exponent` and `quotient_cells`.
-use Rattle.std.proofs.Common.{rules, arith, sym, ◌≡◌}
+-- The cells that `write_cells` leaves are the quotient. Rests on `quotient_cells`.
+use Rattle.std.proofs.Common.{rules, ◌≡◌}
 use Rattle.laws.specs.Monomial.{quotient}
-use Rattle.laws.proofs.Monomial.{divides_exponent}
 use Rattle.monomials.proofs.Pairs.{quotient_cells}
 use Rattle.monomials.proofs.monomial.quotient.Goals as goal
-
-pub write_cells-requires-clause-callable : goal.write_cells-requires-clause-callable
-write_cells-requires-clause-callable c k h κs ptr met range =
-    omega (arith, divides_exponent c.args.b.now c.args.a.now (sym c.if-not-all_at_most.ensures) k)
 
 pub returns-clause-out_after : goal.returns-clause-out_after
 returns-clause-out_after c =

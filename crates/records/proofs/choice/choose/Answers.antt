@@ -10,7 +10,7 @@ use Rattle.records.proofs.choice.choose.Goals as goal
 pub loop-i-init : goal.loop-i-init
 loop-i-init c =
     let l = c.args.list.now in
-    rw c.new-places.ensures record { rows = rw (listed_end l.width l.count l.count l.cells.now (omega arith)) refl; few = omega arith; below = All-nil (λ (q : ℕ). q < l.count) }
+    rw c.requires record { rows = rw (listed_end l.width l.count l.count l.cells.now (omega arith)) refl; few = omega arith; below = All-nil (λ (q : ℕ). q < l.count) }
 
 pub loop-i-preserved-then-is_minimal : goal.loop-i-preserved-then-is_minimal
 loop-i-preserved-then-is_minimal c =
