@@ -7,7 +7,7 @@ use crate::refusal::MAX_EXPONENT;
 
 // Whether each exponent of a is at most that of b.
 // Eight at a time where there are as many: the first eight, and then eights up to the last one, the first of which may overlap those.
-// Inlined but for the eights: most tests end before, and then need no call.
+// Inlined but for the eights, so that a test that ends before them needs no call.
 #[inline(always)]
 pub(crate) fn all_at_most(a: &[u16], b: &[u16]) -> bool
     requires { length b.now ≡ length a.now }
