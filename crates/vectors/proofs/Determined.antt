@@ -1,11 +1,12 @@
 -- Any two outcomes that a contract of the reader allows are equal.
 -- Assumes nothing.
-use Rattle.std.proofs.Common.{◌≡◌, ℕ, ◌<◌, ◌≤◌, Bool, List, ◌++◌, Option, None, Some, Ok, MatchOption, length, drop, refl, sym, ap, ap₂, ◌∙◌, subst, arith}
+use Rattle.std.proofs.Common.{◌≡◌, ℕ, ◌<◌, ◌≤◌, Bool, List, ◌++◌, Option, None, Some, Ok, MatchOption, length, drop, take, refl, sym, ap, ap₂, ◌∙◌, subst, arith}
 use contract.Lifetimes.{Lfts}
 use denote.Param.Laws.{Laws}
 use denote.RattleType.{RattleType}
 use mir.Syntax.{Dict}
 use Rattle.std.specs.List.{FoldsTo}
+use Rattle.std.specs.Io.KnownBytes.{Consumes, IsAtEnd}
 use Rattle.std.specs.declared.io.traits.Read.{Ghosts as ReadGhosts}
 use Rattle.std.specs.declared.io.traits.Write.{Ghosts}
 use Rattle.vectors.specs.Text.{integer_at as integer_at_of}
@@ -17,6 +18,7 @@ use Rattle.vectors.specs.declared.rooms.Compared.{Compared}
 use Rattle.vectors.specs.declared.told.Told.{Told}
 use Rattle.vectors.specs.declared.reader.Reader.{Reader}
 use Rattle.vectors.specs.declared.replay.Calls.{Ghosts as CallsGhosts}
+use Rattle.vectors.specs.declared.comparison.Comparison.{Ghosts as ComparisonGhosts}
 use Rattle.vectors.proofs.integer_at.Reads as integer_at
 use Rattle.vectors.proofs.line_after.Reads as line_after
 use Rattle.vectors.proofs.is_line_end.Reads as is_line_end
@@ -46,6 +48,8 @@ use Rattle.vectors.proofs.reader.Reader.is_line_end.Reads as reader_is_line_end
 use Rattle.vectors.proofs.reader.Reader.is_written.Reads as reader_is_written
 use Rattle.vectors.proofs.replay.replay.Reads as replay
 use Rattle.vectors.proofs.replay.replay_input.Reads as replay_input
+use Rattle.vectors.proofs.comparison.replay.Reads as comparison_replay
+use Rattle.vectors.proofs.comparison.replay_input.Reads as comparison_replay_input
 use Rattle.vectors.proofs.Replaying.{OneAnswer, counts_determined, taken}
 
 pub integer_at_determined : (κs : Lfts 1) (a : _) (r r' : Integer) (s s' : _) → integer_at.Post κs a r s → integer_at.Post κs a r' s' → r ≡ r'
@@ -160,14 +164,35 @@ replay_determined C laws calls dict one κs a r r' s s' p q =
     let e = counts_determined calls.says one a.0.now (a.1.0.now, 0) (s.1.0.now, r) (s'.1.0.now, r') p q in
     (ap (λ (c : List ℕ × ℕ). c.1) e, ap (λ (c : List ℕ × ℕ). c.0) e)
 
+-- what is read of an input, and what it makes of the counts
+abbrev Taken : (ℕ → Reader → Option Bool → Type 0) → List ℕ → Option (List ℕ) → Option (List ℕ) → List ℕ × ℕ → List ℕ × ℕ → Type 0
+Taken Says room old new from to =
+    (text : List ℕ) × (length text ≤ length room) × (take (length text) room ≡ text) × Consumes old new text × (length text < length room → IsAtEnd new)
+    × ((lines : List ℕ) × AreLines text 0 lines × FoldsTo (Replays text (ReadFrom text Says)) from lines to)
+
+taken_determined : (Says : ℕ → Reader → Option Bool → Type 0) → OneAnswer Says → (k : ℕ) (bytes room room' : List ℕ) (old new new' : Option (List ℕ)) (from to to' : List ℕ × ℕ)
+    → length room ≡ k → length room' ≡ k → old ≡ Some bytes → Taken Says room old new from to → Taken Says room' old new' from to' → to ≡ to'
+taken_determined Says one k bytes room room' old new new' from to to' h h' known p q =
+    let same : p.0 ≡ q.0 = taken k bytes p.0 old new known p.3 (omega (arith, h, p.1)) (λ l. p.4 (omega (arith, h, l))) ∙ sym (taken k bytes q.0 old new' known q.3 (omega (arith, h', q.1)) (λ l. q.4 (omega (arith, h', l)))) in
+    counts_determined Says one p.0 from to to' p.5 (subst (λ (t : List ℕ). (lines : List ℕ) × AreLines t 0 lines × FoldsTo (Replays t (ReadFrom t Says)) from lines to') (sym same) q.5)
+
 -- of the same, where all could be read and written, at every reader whose bytes a contract can name
 pub replay_input_determined : (C R W : RattleType) (laws : Laws C) (read_laws : Laws R) (write_laws : Laws W) (calls : CallsGhosts C.Denot) (dict : Dict) (read : ReadGhosts R.Denot) (read_dict : Dict) (write : Ghosts W.Denot) (write_dict : Dict) → OneAnswer calls.says → (κs : _) (a : _) (r r' : ℕ) (s s' : _)
     → replay_input.Post C R W laws read_laws write_laws calls dict read read_dict write write_dict κs a (Ok r) s → replay_input.Post C R W laws read_laws write_laws calls dict read read_dict write write_dict κs a (Ok r') s'
     → (bytes : List ℕ) → read.remaining a.0.now ≡ Some bytes → (r ≡ r') × (s.1.1.1.0.now ≡ s'.1.1.1.0.now)
 replay_input_determined C R W laws read_laws write_laws calls dict read read_dict write write_dict one κs a r r' s s' p q bytes known =
-    let k = length a.1.1.0.now in
-    let from : List ℕ × ℕ = (a.1.1.1.0.now, 0) in
-    let same : p.1.0 ≡ q.1.0 = taken k bytes p.1.0 _ _ known p.1.3 (omega (arith, p.0, p.1.1)) (λ h. p.1.4 (omega (arith, p.0, h))) ∙ sym (taken k bytes q.1.0 _ _ known q.1.3 (omega (arith, q.0, q.1.1)) (λ h. q.1.4 (omega (arith, q.0, h)))) in
-    let to : List ℕ × ℕ = (s'.1.1.1.0.now, r') in
-    let e = counts_determined calls.says one p.1.0 from (s.1.1.1.0.now, r) to p.1.5 (subst (λ (t : List ℕ). (lines : List ℕ) × AreLines t 0 lines × FoldsTo (Replays t (ReadFrom t calls.says)) from lines to) (sym same) q.1.5) in
+    let e = taken_determined calls.says one (length a.1.1.0.now) bytes _ _ _ _ _ (a.1.1.1.0.now, 0) (s.1.1.1.0.now, r) (s'.1.1.1.0.now, r') p.0 q.0 known p.1 q.1 in
+    (ap (λ (c : List ℕ × ℕ). c.1) e, ap (λ (c : List ℕ × ℕ). c.0) e)
+
+-- of the calls by a value that compares, the same
+pub comparison_replay_determined : (C : RattleType) (laws : Laws C) (comparison : ComparisonGhosts C.Denot) (dict : Dict) (κs : _) (a : _) (r r' : ℕ) (s s' : _) → comparison_replay.Post C laws comparison dict κs a r s → comparison_replay.Post C laws comparison dict κs a r' s' → OneAnswer (comparison.says a.1.1.0.now) → (r ≡ r') × (s.1.0.now ≡ s'.1.0.now)
+comparison_replay_determined C laws comparison dict κs a r r' s s' p q one =
+    let e = counts_determined (comparison.says a.1.1.0.now) one a.0.now (a.1.0.now, 0) (s.1.0.now, r) (s'.1.0.now, r') p q in
+    (ap (λ (c : List ℕ × ℕ). c.1) e, ap (λ (c : List ℕ × ℕ). c.0) e)
+
+pub comparison_replay_input_determined : (R W C : RattleType) (read_laws : Laws R) (write_laws : Laws W) (laws : Laws C) (read : ReadGhosts R.Denot) (read_dict : Dict) (write : Ghosts W.Denot) (write_dict : Dict) (comparison : ComparisonGhosts C.Denot) (dict : Dict) (κs : _) (a : _) (r r' : ℕ) (s s' : _)
+    → comparison_replay_input.Post R W C read_laws write_laws laws read read_dict write write_dict comparison dict κs a (Ok r) s → comparison_replay_input.Post R W C read_laws write_laws laws read read_dict write write_dict comparison dict κs a (Ok r') s'
+    → OneAnswer (comparison.says a.1.1.1.1.0.now) → (bytes : List ℕ) → read.remaining a.0.now ≡ Some bytes → (r ≡ r') × (s.1.1.1.0.now ≡ s'.1.1.1.0.now)
+comparison_replay_input_determined R W C read_laws write_laws laws read read_dict write write_dict comparison dict κs a r r' s s' p q one bytes known =
+    let e = taken_determined (comparison.says a.1.1.1.1.0.now) one (length a.1.1.0.now) bytes _ _ _ _ _ (a.1.1.1.0.now, 0) (s.1.1.1.0.now, r) (s'.1.1.1.0.now, r') p.0 q.0 known p.1 q.1 in
     (ap (λ (c : List ℕ × ℕ). c.1) e, ap (λ (c : List ℕ × ℕ). c.0) e)

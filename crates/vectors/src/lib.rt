@@ -2,6 +2,7 @@
 #![tactic(auto)]
 
 pub mod asked;
+pub mod comparison;
 pub mod counts;
 pub mod reader;
 pub mod replay;
