@@ -176,7 +176,7 @@ taken_determined Says one k bytes room room' old new new' from to to' h h' known
     let same : p.0 ≡ q.0 = taken k bytes p.0 old new known p.3 (omega (arith, h, p.1)) (λ l. p.4 (omega (arith, h, l))) ∙ sym (taken k bytes q.0 old new' known q.3 (omega (arith, h', q.1)) (λ l. q.4 (omega (arith, h', l)))) in
     counts_determined Says one p.0 from to to' p.5 (subst (λ (t : List ℕ). (lines : List ℕ) × AreLines t 0 lines × FoldsTo (Replays t (ReadFrom t Says)) from lines to') (sym same) q.5)
 
--- of the same, where all could be read and written, at every reader whose bytes a contract can name
+-- of the answer and of what the counts then are, where all could be read and written, at every reader whose bytes a contract can name
 pub replay_input_determined : (C R W : RattleType) (laws : Laws C) (read_laws : Laws R) (write_laws : Laws W) (calls : CallsGhosts C.Denot) (dict : Dict) (read : ReadGhosts R.Denot) (read_dict : Dict) (write : Ghosts W.Denot) (write_dict : Dict) → OneAnswer calls.says → (κs : _) (a : _) (r r' : ℕ) (s s' : _)
     → replay_input.Post C R W laws read_laws write_laws calls dict read read_dict write write_dict κs a (Ok r) s → replay_input.Post C R W laws read_laws write_laws calls dict read read_dict write write_dict κs a (Ok r') s'
     → (bytes : List ℕ) → read.remaining a.0.now ≡ Some bytes → (r ≡ r') × (s.1.1.1.0.now ≡ s'.1.1.1.0.now)
@@ -184,7 +184,7 @@ replay_input_determined C R W laws read_laws write_laws calls dict read read_dic
     let e = taken_determined calls.says one (length a.1.1.0.now) bytes _ _ _ _ _ (a.1.1.1.0.now, 0) (s.1.1.1.0.now, r) (s'.1.1.1.0.now, r') p.0 q.0 known p.1 q.1 in
     (ap (λ (c : List ℕ × ℕ). c.1) e, ap (λ (c : List ℕ × ℕ). c.0) e)
 
--- of the calls by a value that compares, the same
+-- the same of the calls by a value that compares
 pub comparison_replay_determined : (C : RattleType) (laws : Laws C) (comparison : ComparisonGhosts C.Denot) (dict : Dict) (κs : _) (a : _) (r r' : ℕ) (s s' : _) → comparison_replay.Post C laws comparison dict κs a r s → comparison_replay.Post C laws comparison dict κs a r' s' → OneAnswer (comparison.says a.1.1.0.now) → (r ≡ r') × (s.1.0.now ≡ s'.1.0.now)
 comparison_replay_determined C laws comparison dict κs a r r' s s' p q one =
     let e = counts_determined (comparison.says a.1.1.0.now) one a.0.now (a.1.0.now, 0) (s.1.0.now, r) (s'.1.0.now, r') p q in

@@ -1,7 +1,7 @@
 -- What the contracts of `put` and `compare` say of bytes, cells, words and coefficients, as the impls of `Element` have them.
 --   put_gives_bytes, put_gives_cells, put_gives_words, put_gives_coefficients   the place after the integers, and the room, element by element
 --   are_bytes, are_cells, are_words, are_coefficients   whether the room is what the contents say, and the place after it
--- And of any list, whatever wrote it:
+-- And of no contract, for any text, contents and length, or any list:
 --   put_bytes, put_cells, put_words, put_coefficients   the elements with the bits wanted, in the words of Rooms
 --   compare_plain                                       what is compared where an element is its own bits
 -- Assumes nothing.

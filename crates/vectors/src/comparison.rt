@@ -1,6 +1,6 @@
-// A text of cases, replayed line by line as in `replay`, by a value that compares. It may hold what is known only as the program runs; the calls of
-// a type have no value that could. A closure is not taken as it is, since a call would have to ask that it may be called. The tests hand one on
-// inside such a value, whose type says so.
+// A text of cases, replayed line by line as in the module `replay`, by a value that compares. It may hold what is known only as the program runs,
+// which no type with `Calls` can. A closure is not taken as it is, since these functions would have to ask, by a `requires`, that it may be called.
+// The tests hand one on inside such a value, whose type says so.
 ghost use Rattle.std.specs.Prelude.{◌≡◌, ◌<◌, ◌≤◌, Bool, List, ℕ, Option, length, take, IfOk};
 ghost use Rattle.std.specs.List.{FoldsTo};
 ghost use Rattle.std.specs.Io.KnownBytes.{Consumes, IsAtEnd};

@@ -1,6 +1,7 @@
 // Cases compared by what is known only as the test runs: by a value, and by a closure that is handed on inside one.
-ghost use Rattle.std.specs.Prelude.{◌≡◌, Bool, List, ℕ, None, Option, Some, cond, nat_eq};
+ghost use Rattle.std.specs.Prelude.{◌≡◌, ◌<◌, ◌≤◌, Bool, List, ℕ, None, Option, Some, cond, length, nat_eq, IfOk};
 ghost use Rattle.std.specs.List.{FoldsTo};
+ghost use Rattle.std.specs.Io.KnownBytes.{Consumes, IsAtEnd};
 ghost use Rattle.vectors.specs.Text.{integer_at};
 ghost use Rattle.vectors.specs.Replay.{AreLines, ReadFrom, Replays};
 ghost use Rattle.vectors.specs.declared.reader.Reader.{Reader};
@@ -101,6 +102,7 @@ impl<T: Callable> Comparison for Called<T> {
     }
 }
 
+// Not written in `replay_by`: the checker does not cover a literal of `Called` at a closure.
 fn replay_called<T: Callable>(text: &[u8], counts: &mut [u64], by: T) -> u64
     requires { T.can by }
     ensures { (lines : _) × AreLines text.now 0 lines × FoldsTo (Replays text.now (ReadFrom text.now (λ code case says. T.says by code case says))) (counts.old, 0) lines (counts.new, result) }
@@ -108,7 +110,7 @@ fn replay_called<T: Callable>(text: &[u8], counts: &mut [u64], by: T) -> u64
     replay(text, counts, &Called { by })
 }
 
-// By any closure that may always be called, its calls in the promise.
+// By any closure that may always be called; the clause speaks of what it answers.
 fn replay_by<F: Fn(u64, Reader<'_>) -> Option<bool>>(
     text: &[u8],
     counts: &mut [u64],
@@ -120,12 +122,49 @@ fn replay_by<F: Fn(u64, Reader<'_>) -> Option<bool>>(
     replay_called(text, counts, compare)
 }
 
+fn replay_input_called<R: Read, W: Write, T: Callable>(
+    input: &mut R,
+    out: &mut W,
+    room: &mut [u8],
+    counts: &mut [u64],
+    by: T,
+) -> io::Result<u64>
+    requires { T.can by }
+    ensures { IfOk result (λ apart. (text : List ℕ) × (length text ≤ length room.new) × Consumes (R.remaining input.old) (R.remaining input.new) text × (length text < length room.new → IsAtEnd (R.remaining input.new)) × ((lines : _) × AreLines text 0 lines × FoldsTo (Replays text (ReadFrom text (λ code case says. T.says by code case says))) (counts.old, 0) lines (counts.new, apart))) }
+{
+    replay_input(input, out, room, counts, &Called { by })
+}
+
+fn replay_input_by<R: Read, W: Write, F: Fn(u64, Reader<'_>) -> Option<bool>>(
+    input: &mut R,
+    out: &mut W,
+    room: &mut [u8],
+    counts: &mut [u64],
+    compare: F,
+) -> io::Result<u64>
+    requires { F.IsAlwaysCallable compare }
+    ensures { IfOk result (λ apart. (text : List ℕ) × (length text ≤ length room.new) × Consumes (R.remaining input.old) (R.remaining input.new) text × (length text < length room.new → IsAtEnd (R.remaining input.new)) × ((lines : _) × AreLines text 0 lines × FoldsTo (Replays text (ReadFrom text (λ code case says. F.post compare code case says))) (counts.old, 0) lines (counts.new, apart))) }
+{
+    replay_input_called(input, out, room, counts, compare)
+}
+
 #[test]
-fn counts_by_a_closure(rt: HostRuntime) {
+fn counts_by_a_closure(rt: HostRuntime) -> Result<(), Fail> {
     for (limit, wrong) in [(1, 2), (2, 1), (4, 0)] {
         let mut counts = [0u64; 3];
         let apart = replay_by(TEXT, &mut counts, |code, _case| Some(code <= limit));
         assert_eq!(rt; apart, 0, "to {limit}");
         assert_eq!(rt; counts, [wrong, 2, 1], "to {limit}");
+        let (mut input, mut out, mut room) = (TEXT, io::sink(), [0u8; 64]);
+        let mut again = [0u64; 3];
+        replay_input_by(
+            &mut input,
+            &mut out,
+            &mut room,
+            &mut again,
+            |code, _case| Some(code <= limit),
+        )?;
+        assert_eq!(rt; again, counts, "to {limit}");
     }
+    Ok(())
 }
