@@ -158,11 +158,13 @@ reader_is_line_end_determined κs a r r' s s' p q = p ∙ sym q
 pub reader_is_written_determined : (T : RattleType) (laws : Laws T) (copy : _) (element : _) (dict : Dict) (clone : _) (clone_dict : Dict) (κs : _) (a : _) (r r' : Bool) (s s' : _) → reader_is_written.Post T laws copy element dict clone clone_dict κs a r s → reader_is_written.Post T laws copy element dict clone clone_dict κs a r' s' → r ≡ r'
 reader_is_written_determined T laws copy element dict clone clone_dict κs a r r' s s' p q = p ∙ sym q
 
+answer_and_counts : {p q : List ℕ × ℕ} → p ≡ q → (p.1 ≡ q.1) × (p.0 ≡ q.0)
+answer_and_counts e = (ap (λ (c : List ℕ × ℕ). c.1) e, ap (λ (c : List ℕ × ℕ). c.0) e)
+
 -- of the answer and of what the counts then are, where no case is answered in two ways
 pub replay_determined : (C : RattleType) (laws : Laws C) (calls : CallsGhosts C.Denot) (dict : Dict) → OneAnswer calls.says → (κs : _) (a : _) (r r' : ℕ) (s s' : _) → replay.Post C laws calls dict κs a r s → replay.Post C laws calls dict κs a r' s' → (r ≡ r') × (s.1.0.now ≡ s'.1.0.now)
 replay_determined C laws calls dict one κs a r r' s s' p q =
-    let e = counts_determined calls.says one a.0.now (a.1.0.now, 0) (s.1.0.now, r) (s'.1.0.now, r') p q in
-    (ap (λ (c : List ℕ × ℕ). c.1) e, ap (λ (c : List ℕ × ℕ). c.0) e)
+    answer_and_counts (counts_determined calls.says one a.0.now (a.1.0.now, 0) (s.1.0.now, r) (s'.1.0.now, r') p q)
 
 -- what is read of an input, and what it makes of the counts
 abbrev Taken : (ℕ → Reader → Option Bool → Type 0) → List ℕ → Option (List ℕ) → Option (List ℕ) → List ℕ × ℕ → List ℕ × ℕ → Type 0
@@ -181,18 +183,15 @@ pub replay_input_determined : (C R W : RattleType) (laws : Laws C) (read_laws : 
     → replay_input.Post C R W laws read_laws write_laws calls dict read read_dict write write_dict κs a (Ok r) s → replay_input.Post C R W laws read_laws write_laws calls dict read read_dict write write_dict κs a (Ok r') s'
     → (bytes : List ℕ) → read.remaining a.0.now ≡ Some bytes → (r ≡ r') × (s.1.1.1.0.now ≡ s'.1.1.1.0.now)
 replay_input_determined C R W laws read_laws write_laws calls dict read read_dict write write_dict one κs a r r' s s' p q bytes known =
-    let e = taken_determined calls.says one (length a.1.1.0.now) bytes _ _ _ _ _ (a.1.1.1.0.now, 0) (s.1.1.1.0.now, r) (s'.1.1.1.0.now, r') p.0 q.0 known p.1 q.1 in
-    (ap (λ (c : List ℕ × ℕ). c.1) e, ap (λ (c : List ℕ × ℕ). c.0) e)
+    answer_and_counts (taken_determined calls.says one (length a.1.1.0.now) bytes _ _ _ _ _ (a.1.1.1.0.now, 0) (s.1.1.1.0.now, r) (s'.1.1.1.0.now, r') p.0 q.0 known p.1 q.1)
 
 -- the same of the calls by a value that compares
 pub comparison_replay_determined : (C : RattleType) (laws : Laws C) (comparison : ComparisonGhosts C.Denot) (dict : Dict) (κs : _) (a : _) (r r' : ℕ) (s s' : _) → comparison_replay.Post C laws comparison dict κs a r s → comparison_replay.Post C laws comparison dict κs a r' s' → OneAnswer (comparison.says a.1.1.0.now) → (r ≡ r') × (s.1.0.now ≡ s'.1.0.now)
 comparison_replay_determined C laws comparison dict κs a r r' s s' p q one =
-    let e = counts_determined (comparison.says a.1.1.0.now) one a.0.now (a.1.0.now, 0) (s.1.0.now, r) (s'.1.0.now, r') p q in
-    (ap (λ (c : List ℕ × ℕ). c.1) e, ap (λ (c : List ℕ × ℕ). c.0) e)
+    answer_and_counts (counts_determined (comparison.says a.1.1.0.now) one a.0.now (a.1.0.now, 0) (s.1.0.now, r) (s'.1.0.now, r') p q)
 
 pub comparison_replay_input_determined : (R W C : RattleType) (read_laws : Laws R) (write_laws : Laws W) (laws : Laws C) (read : ReadGhosts R.Denot) (read_dict : Dict) (write : Ghosts W.Denot) (write_dict : Dict) (comparison : ComparisonGhosts C.Denot) (dict : Dict) (κs : _) (a : _) (r r' : ℕ) (s s' : _)
     → comparison_replay_input.Post R W C read_laws write_laws laws read read_dict write write_dict comparison dict κs a (Ok r) s → comparison_replay_input.Post R W C read_laws write_laws laws read read_dict write write_dict comparison dict κs a (Ok r') s'
     → OneAnswer (comparison.says a.1.1.1.1.0.now) → (bytes : List ℕ) → read.remaining a.0.now ≡ Some bytes → (r ≡ r') × (s.1.1.1.0.now ≡ s'.1.1.1.0.now)
 comparison_replay_input_determined R W C read_laws write_laws laws read read_dict write write_dict comparison dict κs a r r' s s' p q one bytes known =
-    let e = taken_determined (comparison.says a.1.1.1.1.0.now) one (length a.1.1.0.now) bytes _ _ _ _ _ (a.1.1.1.0.now, 0) (s.1.1.1.0.now, r) (s'.1.1.1.0.now, r') p.0 q.0 known p.1 q.1 in
-    (ap (λ (c : List ℕ × ℕ). c.1) e, ap (λ (c : List ℕ × ℕ). c.0) e)
+    answer_and_counts (taken_determined (comparison.says a.1.1.1.1.0.now) one (length a.1.1.0.now) bytes _ _ _ _ _ (a.1.1.1.0.now, 0) (s.1.1.1.0.now, r) (s'.1.1.1.0.now, r') p.0 q.0 known p.1 q.1)
